@@ -19,21 +19,25 @@ pub use Rattle.theory.proofs.Powers.{pow-one, one-pow, zero-pow, mul-pow, pow-
 
 -- products and powers
 
-pub mul-mod : (a b p : ℕ) → a * b % p ≡ (a % p) * (b % p) % p
-mul-mod a b p = sym (cong-mod (cong-mul (cong-rem p a) (cong-rem p b)))
+-- the left factor of a product may be taken by its remainder
+pub mul-mod-left : (a b m : ℕ) → a % m * b % m ≡ a * b % m
+mul-mod-left a b m = cong-mod (cong-mul (cong-rem m a) (cong-refl b))
 
-pub mod-mul-mod : (a b p : ℕ) → (a % p) * b % p ≡ a * b % p
-mod-mul-mod a b p = cong-mod (cong-mul (cong-rem p a) (cong-refl b))
+-- the right factor may
+pub mul-mod-right : (a b m : ℕ) → a * (b % m) % m ≡ a * b % m
+mul-mod-right a b m = cong-mod (cong-mul-left a (cong-rem m b))
 
-pub mul-mod-mod : (a b p : ℕ) → a * (b % p) % p ≡ a * b % p
-mul-mod-mod a b p = cong-mod (cong-mul-left a (cong-rem p b))
+-- both factors may
+pub mul-mod : (a b m : ℕ) → a % m * (b % m) % m ≡ a * b % m
+mul-mod a b m = cong-mod (cong-mul (cong-rem m a) (cong-rem m b))
 
-pub pow-mod : (a k p : ℕ) → a ^ k % p ≡ (a % p) ^ k % p
-pow-mod a k p = sym (cong-mod (cong-pow k (cong-rem p a)))
+-- the base of a power may be taken by its remainder
+pub pow-mod : (a n m : ℕ) → (a % m) ^ n % m ≡ a ^ n % m
+pow-mod a n m = cong-mod (cong-pow n (cong-rem m a))
 
 -- one power further
 pub pow-step : (a k p : ℕ) → a ^ (k + 1) % p ≡ a * (a ^ k % p) % p
-pow-step a k p = ap (λ (n : ℕ). a ^ n % p) (add-one k) ∙ ap (λ (n : ℕ). n % p) (pow-succ' a k) ∙ sym (mul-mod-mod a (a ^ k) p)
+pow-step a k p = ap (λ (n : ℕ). a ^ n % p) (add-one k) ∙ ap (λ (n : ℕ). n % p) (pow-succ' a k) ∙ sym (mul-mod-right a (a ^ k) p)
 
 -- differences
 
@@ -89,8 +93,9 @@ minus-congruent {p} {a} {b} {c} {d} pos e f =
     (minus-under p a b pos)
     (cong-mod (cong-trans (cong-add (cong-refl (minus p a b)) (cong-sym f)) (cong-trans (minus-cong p a b pos) e)))
 
-pub minus-mod : (p a b : ℕ) → 0 < p → minus p (a % p) (b % p) ≡ minus p a b
-minus-mod p a b pos = minus-congruent pos (cong-rem p a) (cong-rem p b)
+-- both sides of a difference may be taken by their remainders
+pub minus-mod : (p a b : ℕ) → minus p (a % p) (b % p) ≡ minus p a b
+minus-mod p a b = ap₂ (λ (x y : ℕ). (x + (p - y)) % p) (mod-mod a p) (mod-mod b p)
 
 -- a factor goes into a difference
 pub mul-minus : (p c a b : ℕ) → 0 < p → c * minus p a b % p ≡ minus p (c * a) (c * b)
@@ -131,7 +136,7 @@ signed-mod p zero n pos = mod-mod n p
 signed-mod p (suc d) n pos = minus-congruent pos (cong-refl 0) (cong-rem p n)
 
 pub mul-signed : (p d c n : ℕ) → 0 < p → c * signed p d n % p ≡ signed p d (c * n)
-mul-signed p zero c n pos = mul-mod-mod c n p
+mul-signed p zero c n pos = mul-mod-right c n p
 mul-signed p (suc d) c n pos = mul-minus p c 0 n pos ∙ ap (λ (z : ℕ). minus p z (c * n)) (mul-zero c)
 
 -- inverses
@@ -142,7 +147,7 @@ inverse-under p a pos = mod-lt (a ^ (p - 2)) pos
 
 pub inverse-mod : (p a : ℕ) → inverse p (a % p) ≡ inverse p a
 unfolding inverse
-inverse-mod p a = sym (pow-mod a (p - 2) p)
+inverse-mod p a = pow-mod a (p - 2) p
 
 -- sums
 
@@ -186,7 +191,7 @@ unfolding direct-weight
 direct-weight-step p g k i =
     ap (λ (n : ℕ). g ^ n % p) (omega arith)
     ∙ ap (λ (n : ℕ). n % p) (pow-add g (i * (k - 1)) (k - 1))
-    ∙ mul-mod (g ^ (i * (k - 1))) (g ^ (k - 1)) p
+    ∙ sym (mul-mod (g ^ (i * (k - 1))) (g ^ (k - 1)) p)
 
 pub direct-term-is
     : (p g k i : ℕ) → direct-term p g k i ≡ minus p (half-below p g) (direct-quotient p g i) * direct-weight p g k i % p
@@ -224,7 +229,7 @@ pub doubling-point-place : (p g i j : ℕ) → doubling-point p g i (j + 1) ≡ 
 unfolding doubling-point
 doubling-point-place p g i j =
     ap (λ (n : ℕ). n % p) (ap (λ (n : ℕ). g ^ i * 2 ^ n) (add-one j) ∙ omega (arith, ap (λ (n : ℕ). g ^ i * n) (pow-succ' 2 j)))
-    ∙ sym (mul-mod-mod 2 (g ^ i * 2 ^ j) p)
+    ∙ sym (mul-mod-right 2 (g ^ i * 2 ^ j) p)
 
 -- one row further at the same place
 pub doubling-point-row : (p g i j : ℕ) → doubling-point p g (i + 1) j ≡ g * doubling-point p g i j % p
@@ -233,7 +238,7 @@ doubling-point-row p g i j =
     ap
     (λ (n : ℕ). n % p)
     (ap (λ (n : ℕ). g ^ n * 2 ^ j) (add-one i) ∙ omega (arith, ap (λ (n : ℕ). n * 2 ^ j) (pow-succ' g i)))
-    ∙ sym (mul-mod-mod g (g ^ i * 2 ^ j) p)
+    ∙ sym (mul-mod-right g (g ^ i * 2 ^ j) p)
 
 pub doubling-weight-under : (p g k i j : ℕ) → 0 < p → doubling-weight p g k i j < p
 unfolding doubling-weight
@@ -251,7 +256,7 @@ doubling-weight-place p g k i j =
     (λ (n : ℕ). n % p)
     (ap (λ (n : ℕ). (g ^ (k - 1)) ^ i * (2 ^ (k - 1)) ^ n) (add-one j)
     ∙ omega (arith, ap (λ (n : ℕ). (g ^ (k - 1)) ^ i * n) (pow-suc (2 ^ (k - 1)) j)))
-    ∙ mul-mod ((g ^ (k - 1)) ^ i * (2 ^ (k - 1)) ^ j) (2 ^ (k - 1)) p
+    ∙ sym (mul-mod ((g ^ (k - 1)) ^ i * (2 ^ (k - 1)) ^ j) (2 ^ (k - 1)) p)
 
 pub doubling-weight-row
     : (p g k i j : ℕ) → doubling-weight p g k (i + 1) j ≡ doubling-weight p g k i j * (g ^ (k - 1) % p) % p
@@ -261,7 +266,7 @@ doubling-weight-row p g k i j =
     (λ (n : ℕ). n % p)
     (ap (λ (n : ℕ). (g ^ (k - 1)) ^ n * (2 ^ (k - 1)) ^ j) (add-one i)
     ∙ omega (arith, ap (λ (n : ℕ). n * (2 ^ (k - 1)) ^ j) (pow-suc (g ^ (k - 1)) i)))
-    ∙ mul-mod ((g ^ (k - 1)) ^ i * (2 ^ (k - 1)) ^ j) (g ^ (k - 1)) p
+    ∙ sym (mul-mod ((g ^ (k - 1)) ^ i * (2 ^ (k - 1)) ^ j) (g ^ (k - 1)) p)
 
 pub doubling-term-is
     : (p g k i j : ℕ)
