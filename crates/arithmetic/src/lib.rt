@@ -1,9 +1,16 @@
 // Arithmetics modulo p and what they have in common, and the refusals of every call.
 mod plain;
+mod power;
 mod refusal;
 mod traits;
 
 pub use plain::Plain;
+pub use plain::PlainArithmetic;
 pub use plain::PlainElement;
+pub use power::invert;
+pub use power::raise;
 pub use refusal::Refusal;
+pub use refusal::RefusalByNumber;
+pub use refusal::RefusalDebug;
+pub use refusal::RefusalEq;
 pub use traits::Arithmetic;

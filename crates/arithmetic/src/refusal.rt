@@ -1,8 +1,9 @@
 // Why a call refuses. Each refusal has a number, by which it is known outside the library.
 ghost use mathlib.Core.Path.{_≡_};
+ghost use lib.Dec.{eqb};
 ghost use Rattle.arithmetic.specs.Refusals.{refusal-number};
 
-#[derive(Clone, Copy, PartialEq, Eq, Debug)]
+#[derive(Clone, Copy, Eq, Debug)]
 pub enum Refusal {
     // the index is odd or outside 2 to 2147483646
     Index,
@@ -69,5 +70,14 @@ impl Refusal {
             Refusal::TermsLeft => 18,
             Refusal::OutputShort => 23,
         }
+    }
+}
+
+// Refusals are the same exactly where their numbers are.
+pub impl PartialEq<Refusal> for Refusal as RefusalByNumber {
+    ghost equals = { λ a b r. r ≡ eqb (refusal-number a) (refusal-number b) };
+
+    fn eq(&self, other: &Refusal) -> bool {
+        self.number() == other.number()
     }
 }
