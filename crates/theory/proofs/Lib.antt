@@ -6,3 +6,5 @@ pub mod Binomials
 pub mod Counting
 pub mod Generators
 pub mod PowerSums
+pub mod HalfSystems
+pub mod Multipliers
