@@ -8,3 +8,4 @@ pub mod Generators
 pub mod PowerSums
 pub mod HalfSystems
 pub mod Multipliers
+pub mod OrderOfTwo
