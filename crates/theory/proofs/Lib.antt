@@ -9,3 +9,4 @@ pub mod PowerSums
 pub mod HalfSystems
 pub mod Multipliers
 pub mod OrderOfTwo
+pub mod DirectSum

@@ -12,8 +12,8 @@ use native.Mathlib.Omega.{arith}
 use lib.Pow.{pow-add}
 use lib.Dec.{eqb, eqb→eq, eqb-refl, T}
 use Rattle.theory.specs.Doubling.{Order, first-one, order, row-length}
-use Rattle.theory.proofs.Powers.{one-pow, mul-pow, pow-mul}
-use Rattle.theory.proofs.Congruence.{Cong, cong-refl, cong-sym, cong-trans, cong-of-eq, eq-cong, cong-eq, cong-mul, cong-mul-left, cong-pow, cong-mod, mod-cong, cong-under, cong-divide}
+use Rattle.theory.proofs.Powers.{one-pow, pow-mul}
+use Rattle.theory.proofs.Congruence.{Cong, cong-refl, cong-sym, cong-trans, cong-of-eq, eq-cong, cong-eq, cong-mul, cong-mul-left, cong-pow, cong-mod, mod-cong, cong-divide, unit-pow, unit-not-zero}
 use Rattle.theory.proofs.Counting.{OneToOne, one-to-one-meets}
 
 -- a power of 2 that leaves 1, as a congruence
@@ -104,30 +104,18 @@ module _ (p n : ℕ) (big : 1 < p) (is : Order p n) where
 
 -- an odd modulus
 module _ (p h : ℕ) (odd : p ≡ suc (h + h)) (some : 0 < h) where
+  big : 1 < p
+  big = omega arith
+
   -- h + 1 is the half of 1
-  half-of-one : (i : ℕ) → Cong p (suc h ^ i * 2 ^ i) 1
-  half-of-one i =
-      eq-cong
-        (sym (mul-pow (suc h) 2 i))
-        (cong-eq (cong-pow i (record { up = 0; down = 1; same = omega arith })) (one-pow i))
+  pub half-of-one : (i : ℕ) → Cong p (suc h ^ i * 2 ^ i) 1
+  half-of-one i = unit-pow (suc h) 2 i (record { up = 0; down = 1; same = omega arith })
 
   pub two-cancel : (i : ℕ) {x y : ℕ} → Cong p (2 ^ i * x) (2 ^ i * y) → Cong p x y
   two-cancel i e = cong-divide (suc h ^ i) (2 ^ i) (half-of-one i) e
 
   pub two-not-zero : (i : ℕ) → 2 ^ i % p ≢ 0
-  two-not-zero i e =
-      omega
-        ( arith
-        , cong-under
-            {m = p}
-            {a = 0}
-            {b = 1}
-            (omega arith)
-            (omega arith)
-            (cong-trans
-              (cong-sym
-                (cong-eq (cong-mul-left (suc h ^ i) (mod-cong (e ∙ sym (zero-mod p)))) (mul-zero (suc h ^ i))))
-              (half-of-one i)) )
+  two-not-zero i = unit-not-zero (suc h ^ i) (2 ^ i) big (half-of-one i)
 
   -- equal powers of 2 have a power between them that leaves 1
   between : (i j : ℕ) → i < j → Cong p (2 ^ i) (2 ^ j) → Cong p (2 ^ (j - i)) 1
@@ -183,9 +171,6 @@ module _ (p h : ℕ) (odd : p ≡ suc (h + h)) (some : 0 < h) where
               ⊎ ((order p ≡ cond t (order p / 2) (order p)) × (order p % 2 ≡ 1))
       at true e = inl (omega (arith, passed (order p % 2) 0 e))
       at false e = inr (refl, omega (arith, failed (order p % 2) 0 e))
-
-  big : 1 < p
-  big = omega arith
 
   pub row-length-positive : 0 < row-length p
   row-length-positive = elim row-length-is [ inl e ↦ omega (arith, e, order-is .positive) | inr e ↦ omega (arith, e .0, order-is .positive) ]
