@@ -10,3 +10,4 @@ pub mod HalfSystems
 pub mod Multipliers
 pub mod OrderOfTwo
 pub mod DirectSum
+pub mod DoublingSum

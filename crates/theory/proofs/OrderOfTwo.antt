@@ -118,7 +118,7 @@ module _ (p h : ℕ) (odd : p ≡ suc (h + h)) (some : 0 < h) where
   two-not-zero i = unit-not-zero (suc h ^ i) (2 ^ i) big (half-of-one i)
 
   -- equal powers of 2 have a power between them that leaves 1
-  between : (i j : ℕ) → i < j → Cong p (2 ^ i) (2 ^ j) → Cong p (2 ^ (j - i)) 1
+  pub between : (i j : ℕ) → i < j → Cong p (2 ^ i) (2 ^ j) → Cong p (2 ^ (j - i)) 1
   between i j u e =
       cong-sym
         (two-cancel
