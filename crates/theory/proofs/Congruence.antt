@@ -106,11 +106,11 @@ unit-mul c a d b e f = eq-cong (omega arith) (cong-mul e f)
 pub unit-not-zero : {m : ℕ} (c a : ℕ) → 1 < m → Cong m (c * a) 1 → a % m ≢ 0
 unit-not-zero {m} c a big unit e =
     ne-of-lt
-      (zero-lt-suc 0)
-      (cong-under
-        (le-of-lt big)
-        big
-        (cong-trans (cong-sym (cong-eq (cong-mul-left c (mod-cong (e ∙ sym (zero-mod m)))) (mul-zero c))) unit))
+    (zero-lt-suc 0)
+    (cong-under
+    (le-of-lt big)
+    big
+    (cong-trans (cong-sym (cong-eq (cong-mul-left c (mod-cong (e ∙ sym (zero-mod m)))) (mul-zero c))) unit))
 
 -- from m to the multiples of m, and back
 pub cong-scale : {m a b : ℕ} (c : ℕ) → Cong m a b → Cong (c * m) (c * a) (c * b)

@@ -25,6 +25,7 @@ half-below-twice p h g odd = eq-cong whole (cong-multiple (g - 1) (g - 1))
   where
     middle : (p + 1) / 2 ≡ suc h
     middle = omega arith
+
     whole : 2 * half-below p g ≡ g - 1 + p * (g - 1)
     whole = ap (λ (z : ℕ). 2 * ((g - 1) * z)) middle ∙ omega (arith, ap (λ (z : ℕ). z * (g - 1)) odd)
 
@@ -32,21 +33,21 @@ half-below-twice p h g odd = eq-cong whole (cong-multiple (g - 1) (g - 1))
 twice-difference : (p u q w v d : ℕ) → 0 < p → Cong p (2 * u) d → Cong p w v → Cong p (2 * (minus p u q * w % p) + 2 * (q * v)) (d * v)
 twice-difference p u q w v d pos twice same =
     cong-trans
-      (cong-add (cong-mul-left 2 (cong-trans (cong-rem p (minus p u q * w)) (cong-mul-left (minus p u q) same))) (cong-refl (2 * (q * v))))
-      (eq-cong
-        (omega arith)
-        (cong-trans (cong-mul-left (2 * v) (minus-cong p u q pos)) (eq-cong (omega arith) (cong-eq (cong-mul-left v twice) (omega arith)))))
+    (cong-add (cong-mul-left 2 (cong-trans (cong-rem p (minus p u q * w)) (cong-mul-left (minus p u q) same))) (cong-refl (2 * (q * v))))
+    (eq-cong
+    (omega arith)
+    (cong-trans (cong-mul-left (2 * v) (minus-cong p u q pos)) (eq-cong (omega arith) (cong-eq (cong-mul-left v twice) (omega arith)))))
 
 module _ (p g : ℕ) (big : 1 < p) (sound : Sound p g) (h : ℕ) (odd : p ≡ suc (h + h)) where
   pub direct-half-system : HalfSystem p h (λ i. g ^ i % p)
   direct-half-system =
-      record
-        { positive = λ i _. pos-of-ne-zero (unit-not-zero ((g ^ (p - 2)) ^ i) (g ^ i) big (generator-unit p g big sound i))
-        ; under = λ i _. mod-lt (g ^ i) (omega arith)
-        ; apart = λ i j u v e.
-            omega
-              ( arith
-              , generator-exponents
+      record {
+        positive = λ i _. pos-of-ne-zero (unit-not-zero ((g ^ (p - 2)) ^ i) (g ^ i) big (generator-unit p g big sound i));
+        under = λ i _. mod-lt (g ^ i) (omega arith);
+        apart = λ i j u v e.
+            omega (
+              arith,
+              generator-exponents
                   p
                   g
                   big
@@ -55,8 +56,9 @@ module _ (p g : ℕ) (big : 1 < p) (sound : Sound p g) (h : ℕ) (odd : p ≡ su
                   (j + j)
                   (omega arith)
                   (omega arith)
-                  (cong-trans (cong-sym (square i)) (cong-trans e (square j))) )
-        }
+                  (cong-trans (cong-sym (square i)) (cong-trans e (square j))),
+            );
+      }
     where
       square : (i : ℕ) → Cong p (g ^ i % p * (g ^ i % p)) (g ^ (i + i))
       square i = cong-eq (cong-mul (cong-rem p (g ^ i)) (cong-rem p (g ^ i))) (sym (pow-add g i i))
@@ -66,38 +68,38 @@ module _ (p g : ℕ) (big : 1 < p) (sound : Sound p g) (h : ℕ) (odd : p ≡ su
   unfolding direct-weight
   direct-weight-is k j i e =
       cong-trans
-        (cong-rem p (g ^ ((i + 1) * (k - 1))))
-        (eq-cong
-          (pow-mul g (i + 1) (k - 1) ∙ ap (λ (z : ℕ). (g ^ (i + 1)) ^ z) e)
-          (cong-pow j (cong-sym (mod-cong (mod-mod (g * (g ^ i % p)) p ∙ sym (pow-step g i p))))))
+      (cong-rem p (g ^ ((i + 1) * (k - 1))))
+      (eq-cong
+      (pow-mul g (i + 1) (k - 1) ∙ ap (λ (z : ℕ). (g ^ (i + 1)) ^ z) e)
+      (cong-pow j (cong-sym (mod-cong (mod-mod (g * (g ^ i % p)) p ∙ sym (pow-step g i p))))))
 
   module _ (low : 2 ≤ g) (under : g < p) (k t : ℕ) (even : k ≡ suc (suc (t + t))) (top : k ≤ p - 3) where
     direct-terms
         : (i : ℕ)
         → Cong
-            p
-            (2 * direct-term p g k (i + 1) + 2 * (g * (g ^ i % p) / p * (g * (g ^ i % p) % p) ^ suc (t + t)))
-            ((g - 1) * (g * (g ^ i % p) % p) ^ suc (t + t))
+        p
+        (2 * direct-term p g k (i + 1) + 2 * (g * (g ^ i % p) / p * (g * (g ^ i % p) % p) ^ suc (t + t)))
+        ((g - 1) * (g * (g ^ i % p) % p) ^ suc (t + t))
     unfolding direct-term direct-quotient
     direct-terms i =
         subst
-          (λ (z : ℕ).
-            Cong
-              p
-              (2 * (minus p (half-below p g) (g * (g ^ z % p) / p) * direct-weight p g k (i + 1) % p)
-                + 2 * (g * (g ^ i % p) / p * (g * (g ^ i % p) % p) ^ suc (t + t)))
-              ((g - 1) * (g * (g ^ i % p) % p) ^ suc (t + t)))
-          before
-          (twice-difference
-            p
-            (half-below p g)
-            (g * (g ^ i % p) / p)
-            (direct-weight p g k (i + 1))
-            ((g * (g ^ i % p) % p) ^ suc (t + t))
-            (g - 1)
-            (omega arith)
-            (half-below-twice p h g odd)
-            (direct-weight-is k (suc (t + t)) i (omega arith)))
+        (λ (z : ℕ).
+        Cong
+        p
+        (2 * (minus p (half-below p g) (g * (g ^ z % p) / p) * direct-weight p g k (i + 1) % p)
+        + 2 * (g * (g ^ i % p) / p * (g * (g ^ i % p) % p) ^ suc (t + t)))
+        ((g - 1) * (g * (g ^ i % p) % p) ^ suc (t + t)))
+        before
+        (twice-difference
+        p
+        (half-below p g)
+        (g * (g ^ i % p) / p)
+        (direct-weight p g k (i + 1))
+        ((g * (g ^ i % p) % p) ^ suc (t + t))
+        (g - 1)
+        (omega arith)
+        (half-below-twice p h g odd)
+        (direct-weight-is k (suc (t + t)) i (omega arith)))
       where
         before : i ≡ i + 1 - 1
         before = omega arith
@@ -108,82 +110,84 @@ module _ (p g : ℕ) (big : 1 < p) (sound : Sound p g) (h : ℕ) (odd : p ≡ su
     unfolding direct-sum
     direct-sum-gives b r =
         cong-trans
-          (cong-add (cong-refl (g ^ k * b k)) (cong-mul-left k doubled))
-          (subst
-            (λ (z : ℕ). Cong p (g ^ z * b z + z * sum h (λ i. 2 * direct-term p g k (i + 1))) (b z))
-            (sym even)
-            (half-system-sum
-              p
-              g
-              big
-              sound
-              g
-              (omega arith)
-              under
-              b
-              r
-              h
-              odd
-              (λ i. g ^ i % p)
-              direct-half-system
-              t
-              (λ i. 2 * direct-term p g k (i + 1))
-              (omega arith)
-              (λ i _. direct-terms i)))
+        (cong-add (cong-refl (g ^ k * b k)) (cong-mul-left k doubled))
+        (subst
+        (λ (z : ℕ). Cong p (g ^ z * b z + z * sum h (λ i. 2 * direct-term p g k (i + 1))) (b z))
+        (sym even)
+        (half-system-sum
+        p
+        g
+        big
+        sound
+        g
+        (omega arith)
+        under
+        b
+        r
+        h
+        odd
+        (λ i. g ^ i % p)
+        direct-half-system
+        t
+        (λ i. 2 * direct-term p g k (i + 1))
+        (omega arith)
+        (λ i _. direct-terms i)))
       where
         count : terms-of p ≡ h
         count = omega arith
+
         doubled : Cong p (2 * (sum (terms-of p) (λ j. direct-term p g k (j + 1)) % p)) (sum h (λ i. 2 * direct-term p g k (i + 1)))
         doubled =
             cong-trans
-              (cong-mul-left 2 (cong-rem p (sum (terms-of p) (λ j. direct-term p g k (j + 1)))))
-              (cong-of-eq
-                (ap (λ (z : ℕ). 2 * sum z (λ j. direct-term p g k (j + 1))) count
-                ∙ sym (sum-mul h 2 (λ i. direct-term p g k (i + 1)))))
+            (cong-mul-left 2 (cong-rem p (sum (terms-of p) (λ j. direct-term p g k (j + 1)))))
+            (cong-of-eq
+            (ap (λ (z : ℕ). 2 * sum z (λ j. direct-term p g k (j + 1))) count
+            ∙ sym (sum-mul h 2 (λ i. direct-term p g k (i + 1)))))
 
     -- 1 − g^k is not 0
     direct-divisor : minus p 1 (g ^ k) % p ≢ 0
     direct-divisor e =
-        omega
-          ( arith
-          , even
-          , generator-exponents p g big sound k 0 (omega arith) (omega arith) (cong-eq leaves (sym (pow-zero g))) )
+        omega (
+          arith,
+          even,
+          generator-exponents p g big sound k 0 (omega arith) (omega arith) (cong-eq leaves (sym (pow-zero g))),
+        )
       where
         leaves : Cong p (g ^ k) 1
         leaves =
             eq-cong
-              (sym (zero-add (g ^ k)))
-              (cong-trans
-                (cong-sym (cong-add (mod-cong {b = 0} (e ∙ sym (zero-mod p))) (cong-refl (g ^ k))))
-                (minus-cong p 1 (g ^ k) (omega arith)))
+            (sym (zero-add (g ^ k)))
+            (cong-trans
+            (cong-sym (cong-add (mod-cong {b = 0} (e ∙ sym (zero-mod p))) (cong-refl (g ^ k))))
+            (minus-cong p 1 (g ^ k) (omega arith)))
 
     pub direct-gives : (b : ℕ → ℕ) → Recurrence p b → b k ≡ direct-result p g k
     unfolding direct-result
     direct-gives b r =
         sym
-          (quotient-is
-            p
-            g
-            big
-            sound
-            (minus p 1 (g ^ k))
-            (2 * k * direct-sum p g k (terms-of p))
-            (b k)
-            direct-divisor
-            (r .under k (omega arith) top)
-            (cong-sym (cong-cancel (g ^ k * b k) rest)))
+        (quotient-is
+        p
+        g
+        big
+        sound
+        (minus p 1 (g ^ k))
+        (2 * k * direct-sum p g k (terms-of p))
+        (b k)
+        direct-divisor
+        (r .under k (omega arith) top)
+        (cong-sym (cong-cancel (g ^ k * b k) rest)))
       where
         rest
             : Cong
-                p
-                (g ^ k * b k + 2 * k * direct-sum p g k (terms-of p))
-                (g ^ k * b k + minus p 1 (g ^ k) * b k)
+            p
+            (g ^ k * b k + 2 * k * direct-sum p g k (terms-of p))
+            (g ^ k * b k + minus p 1 (g ^ k) * b k)
         rest =
             eq-cong
-              (omega arith)
-              (cong-trans
-                (direct-sum-gives b r)
-                (cong-sym
-                  (eq-cong
-                    (omega arith)
-                    (cong-eq (cong-mul-left (b k) (minus-cong p 1 (g ^ k) (omega arith))) (omega arith)))))
+            (omega arith)
+            (cong-trans
+            (direct-sum-gives b r)
+            (cong-sym
+            (eq-cong
+            (omega arith)
+            (cong-eq (cong-mul-left (b k) (minus-cong p 1 (g ^ k) (omega arith))) (omega arith)))))

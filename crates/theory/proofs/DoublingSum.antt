@@ -32,8 +32,8 @@ signed-term
     : (p q w c v : ℕ) → 0 < p → q < 2 → Cong p (c * w) v → Cong p (c * signed p q w + 2 * (q * v)) (1 * v)
 signed-term p q w c v pos u e =
     cong-trans
-      (cong-add (cong-refl (c * signed p q w)) (cong-mul-left 2 (cong-mul-left q (cong-sym e))))
-      (eq-cong (omega arith) (cong-trans (cong-mul-left c (signed-twice p q w pos u)) (cong-eq e (omega arith))))
+    (cong-add (cong-refl (c * signed p q w)) (cong-mul-left 2 (cong-mul-left q (cong-sym e))))
+    (eq-cong (omega arith) (cong-trans (cong-mul-left c (signed-twice p q w pos u)) (cong-eq e (omega arith))))
 
 module _ (p g : ℕ) (big : 1 < p) (sound : Sound p g) (h : ℕ) (odd : p ≡ suc (h + h)) where
   some : 0 < h
@@ -47,54 +47,55 @@ module _ (p g : ℕ) (big : 1 < p) (sound : Sound p g) (h : ℕ) (odd : p ≡ su
       → Cong p (g ^ (i + i) * 2 ^ (j + j)) (g ^ (i′ + i′) * 2 ^ (j′ + j′))
       → i ≡ i′
   same-row i i′ j j′ u u′ e =
-      omega
-        ( arith
-        , eq-of-mul-eq-mul-right
+      omega (
+        arith,
+        eq-of-mul-eq-mul-right
             (row-length p)
             (row-length-positive p h odd some)
             (i + i)
             (i′ + i′)
             (generator-exponents
-              p
-              g
-              big
-              sound
-              ((i + i) * row-length p)
-              ((i′ + i′) * row-length p)
-              u
-              u′
-              (cong-trans (cong-sym (raised i j)) (cong-trans (cong-pow (row-length p) e) (raised i′ j′)))) )
+            p
+            g
+            big
+            sound
+            ((i + i) * row-length p)
+            ((i′ + i′) * row-length p)
+            u
+            u′
+            (cong-trans (cong-sym (raised i j)) (cong-trans (cong-pow (row-length p) e) (raised i′ j′)))),
+      )
     where
       raised : (a c : ℕ) → Cong p ((g ^ (a + a) * 2 ^ (c + c)) ^ row-length p) (g ^ ((a + a) * row-length p))
       raised a c =
           eq-cong
-            (mul-pow (g ^ (a + a)) (2 ^ (c + c)) (row-length p)
-            ∙ ap₂
-                _*_
-                (sym (pow-mul g (a + a) (row-length p)))
-                (sym (pow-mul 2 (c + c) (row-length p))
-                ∙ ap (λ (z : ℕ). 2 ^ z) {y = (row-length p + row-length p) * c} (omega arith)
-                ∙ pow-mul 2 (row-length p + row-length p) c))
-            (cong-eq
-              (cong-mul-left
-                (g ^ ((a + a) * row-length p))
-                (cong-eq (cong-pow c (row-length-returns p h odd some)) (one-pow c)))
-              (mul-one (g ^ ((a + a) * row-length p))))
+          (mul-pow (g ^ (a + a)) (2 ^ (c + c)) (row-length p)
+          ∙ ap₂
+          _*_
+          (sym (pow-mul g (a + a) (row-length p)))
+          (sym (pow-mul 2 (c + c) (row-length p))
+          ∙ ap (λ (z : ℕ). 2 ^ z) {y = (row-length p + row-length p) * c} (omega arith)
+          ∙ pow-mul 2 (row-length p + row-length p) c))
+          (cong-eq
+          (cong-mul-left
+          (g ^ ((a + a) * row-length p))
+          (cong-eq (cong-pow c (row-length-returns p h odd some)) (one-pow c)))
+          (mul-one (g ^ ((a + a) * row-length p))))
 
   not-further : (j j′ : ℕ) → j′ < row-length p → Cong p (2 ^ (j + j)) (2 ^ (j′ + j′)) → ¬ (j < j′)
   not-further j j′ u e below =
       row-length-first
-        p
-        h
-        odd
-        some
-        (j′ - j)
-        (omega arith)
-        (omega arith)
-        (subst
-          (λ (z : ℕ). Cong p (2 ^ z) 1)
-          (omega arith)
-          (between p h odd some (j + j) (j′ + j′) (omega arith) e))
+      p
+      h
+      odd
+      some
+      (j′ - j)
+      (omega arith)
+      (omega arith)
+      (subst
+      (λ (z : ℕ). Cong p (2 ^ z) 1)
+      (omega arith)
+      (between p h odd some (j + j) (j′ + j′) (omega arith) e))
 
   same-place : (j j′ : ℕ) → j < row-length p → j′ < row-length p → Cong p (2 ^ (j + j)) (2 ^ (j′ + j′)) → j ≡ j′
   same-place j j′ u u′ e = omega (arith, not-further j j′ u′ e, not-further j′ j u (cong-sym e))
@@ -108,39 +109,39 @@ module _ (p g : ℕ) (big : 1 < p) (sound : Sound p g) (h : ℕ) (odd : p ≡ su
       → j ≡ j′
   same-place-of-row i i′ j j′ same u u′ e =
       same-place
-        j
-        j′
-        u
-        u′
-        (cong-divide
-          ((g ^ (p - 2)) ^ (i + i))
-          (g ^ (i + i))
-          (generator-unit p g big sound (i + i))
-          (cong-eq e (ap (λ (z : ℕ). g ^ (z + z) * 2 ^ (j′ + j′)) (sym same))))
+      j
+      j′
+      u
+      u′
+      (cong-divide
+      ((g ^ (p - 2)) ^ (i + i))
+      (g ^ (i + i))
+      (generator-unit p g big sound (i + i))
+      (cong-eq e (ap (λ (z : ℕ). g ^ (z + z) * 2 ^ (j′ + j′)) (sym same))))
 
   point-positive : (i j : ℕ) → 0 < doubling-point p g i j
   unfolding doubling-point
   point-positive i j =
       pos-of-ne-zero
-        (unit-not-zero
-          ((g ^ (p - 2)) ^ i * suc h ^ j)
-          (g ^ i * 2 ^ j)
-          big
-          (unit-mul
-            ((g ^ (p - 2)) ^ i)
-            (g ^ i)
-            (suc h ^ j)
-            (2 ^ j)
-            (generator-unit p g big sound i)
-            (half-of-one p h odd some j)))
+      (unit-not-zero
+      ((g ^ (p - 2)) ^ i * suc h ^ j)
+      (g ^ i * 2 ^ j)
+      big
+      (unit-mul
+      ((g ^ (p - 2)) ^ i)
+      (g ^ i)
+      (suc h ^ j)
+      (2 ^ j)
+      (generator-unit p g big sound i)
+      (half-of-one p h odd some j)))
 
   point-square : (i j : ℕ) → Cong p (doubling-point p g i j * doubling-point p g i j) (g ^ (i + i) * 2 ^ (j + j))
   unfolding doubling-point
   point-square i j =
       cong-trans
-        (cong-mul (cong-rem p (g ^ i * 2 ^ j)) (cong-rem p (g ^ i * 2 ^ j)))
-        (cong-of-eq
-          (mul-mul-mul-comm (g ^ i) (2 ^ j) (g ^ i) (2 ^ j) ∙ sym (ap₂ _*_ (pow-add g i i) (pow-add 2 j j))))
+      (cong-mul (cong-rem p (g ^ i * 2 ^ j)) (cong-rem p (g ^ i * 2 ^ j)))
+      (cong-of-eq
+      (mul-mul-mul-comm (g ^ i) (2 ^ j) (g ^ i) (2 ^ j) ∙ sym (ap₂ _*_ (pow-add g i i) (pow-add 2 j j))))
 
   -- the point of term s
   abbrev point : ℕ → ℕ
@@ -154,42 +155,44 @@ module _ (p g : ℕ) (big : 1 < p) (sound : Sound p g) (h : ℕ) (odd : p ≡ su
     where
       squares
           : Cong
-              p
-              (g ^ (s / row-length p + s / row-length p) * 2 ^ (s % row-length p + s % row-length p))
-              (g ^ (s′ / row-length p + s′ / row-length p) * 2 ^ (s′ % row-length p + s′ % row-length p))
+          p
+          (g ^ (s / row-length p + s / row-length p) * 2 ^ (s % row-length p + s % row-length p))
+          (g ^ (s′ / row-length p + s′ / row-length p) * 2 ^ (s′ % row-length p + s′ % row-length p))
       squares =
           cong-trans
-            (cong-sym (point-square (s / row-length p) (s % row-length p)))
-            (cong-trans e (point-square (s′ / row-length p) (s′ % row-length p)))
+          (cong-sym (point-square (s / row-length p) (s % row-length p)))
+          (cong-trans e (point-square (s′ / row-length p) (s′ % row-length p)))
+
       rows : s / row-length p ≡ s′ / row-length p
       rows =
           same-row
-            (s / row-length p)
-            (s′ / row-length p)
-            (s % row-length p)
-            (s′ % row-length p)
-            (omega (arith, mod-add-div s (row-length p)))
-            (omega (arith, mod-add-div s′ (row-length p)))
-            squares
+          (s / row-length p)
+          (s′ / row-length p)
+          (s % row-length p)
+          (s′ % row-length p)
+          (omega (arith, mod-add-div s (row-length p)))
+          (omega (arith, mod-add-div s′ (row-length p)))
+          squares
+
       places : s % row-length p ≡ s′ % row-length p
       places =
           same-place-of-row
-            (s / row-length p)
-            (s′ / row-length p)
-            (s % row-length p)
-            (s′ % row-length p)
-            rows
-            (mod-lt s (row-length-positive p h odd some))
-            (mod-lt s′ (row-length-positive p h odd some))
-            squares
+          (s / row-length p)
+          (s′ / row-length p)
+          (s % row-length p)
+          (s′ % row-length p)
+          rows
+          (mod-lt s (row-length-positive p h odd some))
+          (mod-lt s′ (row-length-positive p h odd some))
+          squares
 
   pub doubling-half-system : HalfSystem p h (λ s. doubling-point p g (s / row-length p) (s % row-length p))
   doubling-half-system =
-      record
-        { positive = λ s _. point-positive (s / row-length p) (s % row-length p)
-        ; under = λ s _. doubling-point-under p g (s / row-length p) (s % row-length p) (omega arith)
-        ; apart = same-term
-        }
+      record {
+        positive = λ s _. point-positive (s / row-length p) (s % row-length p);
+        under = λ s _. doubling-point-under p g (s / row-length p) (s % row-length p) (omega arith);
+        apart = same-term;
+      }
 
   module _ (k t : ℕ) (even : k ≡ suc (suc (t + t))) (top : k ≤ p - 3) where
     -- the weight of a point: a power of it
@@ -197,12 +200,12 @@ module _ (p g : ℕ) (big : 1 < p) (sound : Sound p g) (h : ℕ) (odd : p ≡ su
     unfolding doubling-weight doubling-point
     doubling-weight-is i j =
         cong-trans
-          (cong-rem p ((g ^ (k - 1)) ^ i * (2 ^ (k - 1)) ^ j))
-          (eq-cong
-            (ap₂ _*_ (around g i) (around 2 j)
-            ∙ sym (mul-pow (g ^ i) (2 ^ j) (k - 1))
-            ∙ ap (λ (z : ℕ). (g ^ i * 2 ^ j) ^ z) (omega (arith, even)))
-            (cong-pow (suc (t + t)) (cong-sym (cong-rem p (g ^ i * 2 ^ j)))))
+        (cong-rem p ((g ^ (k - 1)) ^ i * (2 ^ (k - 1)) ^ j))
+        (eq-cong
+        (ap₂ _*_ (around g i) (around 2 j)
+        ∙ sym (mul-pow (g ^ i) (2 ^ j) (k - 1))
+        ∙ ap (λ (z : ℕ). (g ^ i * 2 ^ j) ^ z) (omega (arith, even)))
+        (cong-pow (suc (t + t)) (cong-sym (cong-rem p (g ^ i * 2 ^ j)))))
       where
         around : (a n : ℕ) → (a ^ (k - 1)) ^ n ≡ (a ^ n) ^ (k - 1)
         around a n =
@@ -211,24 +214,24 @@ module _ (p g : ℕ) (big : 1 < p) (sound : Sound p g) (h : ℕ) (odd : p ≡ su
     doubling-terms
         : (i j : ℕ)
         → Cong
-            p
-            (2 ^ suc (t + t) * doubling-term p g k i j
-              + 2
-                * (2 * doubling-point p g i j / p * (2 * doubling-point p g i j % p) ^ suc (t + t)))
-            ((2 - 1) * (2 * doubling-point p g i j % p) ^ suc (t + t))
+        p
+        (2 ^ suc (t + t) * doubling-term p g k i j
+        + 2
+        * (2 * doubling-point p g i j / p * (2 * doubling-point p g i j % p) ^ suc (t + t)))
+        ((2 - 1) * (2 * doubling-point p g i j % p) ^ suc (t + t))
     unfolding doubling-term
     doubling-terms i j =
         signed-term
-          p
-          (2 * x / p)
-          (doubling-weight p g k i j)
-          (2 ^ suc (t + t))
-          ((2 * x % p) ^ suc (t + t))
-          (omega arith)
-          (div-lt-iff-lt-mul (omega arith) .1 (omega (arith, doubling-point-under p g i j (omega arith))))
-          (cong-trans
-            (cong-mul-left (2 ^ suc (t + t)) (doubling-weight-is i j))
-            (eq-cong (sym (mul-pow 2 x (suc (t + t)))) (cong-pow (suc (t + t)) (cong-sym (cong-rem p (2 * x))))))
+        p
+        (2 * x / p)
+        (doubling-weight p g k i j)
+        (2 ^ suc (t + t))
+        ((2 * x % p) ^ suc (t + t))
+        (omega arith)
+        (div-lt-iff-lt-mul (omega arith) .1 (omega (arith, doubling-point-under p g i j (omega arith))))
+        (cong-trans
+        (cong-mul-left (2 ^ suc (t + t)) (doubling-weight-is i j))
+        (eq-cong (sym (mul-pow 2 x (suc (t + t)))) (cong-pow (suc (t + t)) (cong-sym (cong-rem p (2 * x))))))
       where
         x : ℕ
         x = doubling-point p g i j
@@ -241,39 +244,41 @@ module _ (p g : ℕ) (big : 1 < p) (sound : Sound p g) (h : ℕ) (odd : p ≡ su
     unfolding doubling-sum
     doubling-sum-gives b r =
         cong-trans
-          (cong-add (cong-refl (2 ^ k * b k)) (cong-mul-left k scaled))
-          (subst
-            (λ (z : ℕ). Cong p (2 ^ z * b z + z * sum h (λ s. 2 ^ suc (t + t) * term s)) (b z))
-            (sym even)
-            (half-system-sum
-              p
-              g
-              big
-              sound
-              2
-              (omega arith)
-              (omega (arith, even))
-              b
-              r
-              h
-              odd
-              point
-              doubling-half-system
-              t
-              (λ s. 2 ^ suc (t + t) * term s)
-              (omega arith)
-              (λ s _. doubling-terms (s / row-length p) (s % row-length p))))
+        (cong-add (cong-refl (2 ^ k * b k)) (cong-mul-left k scaled))
+        (subst
+        (λ (z : ℕ). Cong p (2 ^ z * b z + z * sum h (λ s. 2 ^ suc (t + t) * term s)) (b z))
+        (sym even)
+        (half-system-sum
+        p
+        g
+        big
+        sound
+        2
+        (omega arith)
+        (omega (arith, even))
+        b
+        r
+        h
+        odd
+        point
+        doubling-half-system
+        t
+        (λ s. 2 ^ suc (t + t) * term s)
+        (omega arith)
+        (λ s _. doubling-terms (s / row-length p) (s % row-length p))))
       where
         term : ℕ → ℕ
         term s = doubling-term p g k (s / row-length p) (s % row-length p)
+
         count : terms-of p ≡ h
         count = omega arith
+
         scaled : Cong p (2 ^ suc (t + t) * (sum (terms-of p) term % p)) (sum h (λ s. 2 ^ suc (t + t) * term s))
         scaled =
             cong-trans
-              (cong-mul-left (2 ^ suc (t + t)) (cong-rem p (sum (terms-of p) term)))
-              (cong-of-eq
-                (ap (λ (z : ℕ). 2 ^ suc (t + t) * sum z term) count ∙ sym (sum-mul h (2 ^ suc (t + t)) term)))
+            (cong-mul-left (2 ^ suc (t + t)) (cong-rem p (sum (terms-of p) term)))
+            (cong-of-eq
+            (ap (λ (z : ℕ). 2 ^ suc (t + t) * sum z term) count ∙ sym (sum-mul h (2 ^ suc (t + t)) term)))
 
     -- the divisor D = 2(2^(−k) − 1): 2^(k − 1)·D + 2^k is 1
     abbrev difference : ℕ
@@ -282,10 +287,10 @@ module _ (p g : ℕ) (big : 1 < p) (sound : Sound p g) (h : ℕ) (odd : p ≡ su
     divisor-is : Cong p (2 ^ suc (t + t) * (2 * difference) + 2 ^ k) 1
     divisor-is =
         eq-cong
-          (omega (arith, power, ap (λ (z : ℕ). z * difference) power))
-          (cong-trans
-            (cong-mul-left (2 ^ k) (minus-cong p (inverse p (2 ^ k)) 1 (omega arith)))
-            (inverse-is p g big sound (2 ^ k) (two-not-zero p h odd some k)))
+        (omega (arith, power, ap (λ (z : ℕ). z * difference) power))
+        (cong-trans
+        (cong-mul-left (2 ^ k) (minus-cong p (inverse p (2 ^ k)) 1 (omega arith)))
+        (inverse-is p g big sound (2 ^ k) (two-not-zero p h odd some k)))
       where
         power : 2 ^ k ≡ 2 ^ suc (t + t) * 2
         power = ap (λ (z : ℕ). 2 ^ z) even ∙ pow-suc 2 (suc (t + t))
@@ -293,42 +298,42 @@ module _ (p g : ℕ) (big : 1 < p) (sound : Sound p g) (h : ℕ) (odd : p ≡ su
     doubling-divisor : 2 ^ k % p ≢ 1 → 2 * difference % p ≢ 0
     doubling-divisor ne e =
         ne
-          (cong-leaves
-            k
-            big
-            (eq-cong
-              (sym (zero-add (2 ^ k)))
-              (cong-trans
-                (cong-add
-                  (cong-sym
-                    (cong-eq
-                      (cong-mul-left (2 ^ suc (t + t)) (mod-cong (e ∙ sym (zero-mod p))))
-                      (mul-zero (2 ^ suc (t + t)))))
-                  (cong-refl (2 ^ k)))
-                divisor-is)))
+        (cong-leaves
+        k
+        big
+        (eq-cong
+        (sym (zero-add (2 ^ k)))
+        (cong-trans
+        (cong-add
+        (cong-sym
+        (cong-eq
+        (cong-mul-left (2 ^ suc (t + t)) (mod-cong (e ∙ sym (zero-mod p))))
+        (mul-zero (2 ^ suc (t + t)))))
+        (cong-refl (2 ^ k)))
+        divisor-is)))
 
     pub doubling-gives : (b : ℕ → ℕ) → Recurrence p b → 2 ^ k % p ≢ 1 → b k ≡ doubling-result p g k
     unfolding doubling-result
     doubling-gives b r ne =
         sym
-          (quotient-is
-            p
-            g
-            big
-            sound
-            (2 * difference)
-            (k * doubling-sum p g k (terms-of p))
-            (b k)
-            (doubling-divisor ne)
-            (r .under k (omega (arith, even)) top)
-            (two-cancel p h odd some (suc (t + t)) (cong-cancel (2 ^ k * b k) rest)))
+        (quotient-is
+        p
+        g
+        big
+        sound
+        (2 * difference)
+        (k * doubling-sum p g k (terms-of p))
+        (b k)
+        (doubling-divisor ne)
+        (r .under k (omega (arith, even)) top)
+        (two-cancel p h odd some (suc (t + t)) (cong-cancel (2 ^ k * b k) rest)))
       where
         rest
             : Cong
-                p
-                (2 ^ k * b k + 2 ^ suc (t + t) * (2 * difference * b k))
-                (2 ^ k * b k + 2 ^ suc (t + t) * (k * doubling-sum p g k (terms-of p)))
+            p
+            (2 ^ k * b k + 2 ^ suc (t + t) * (2 * difference * b k))
+            (2 ^ k * b k + 2 ^ suc (t + t) * (k * doubling-sum p g k (terms-of p)))
         rest =
             cong-trans
-              (eq-cong (omega arith) (cong-mul-left (b k) divisor-is))
-              (eq-cong (mul-one (b k)) (cong-eq (cong-sym (doubling-sum-gives b r)) (omega arith)))
+            (eq-cong (omega arith) (cong-mul-left (b k) divisor-is))
+            (eq-cong (mul-one (b k)) (cong-eq (cong-sym (doubling-sum-gives b r)) (omega arith)))

@@ -11,3 +11,4 @@ pub mod Multipliers
 pub mod OrderOfTwo
 pub mod DirectSum
 pub mod DoublingSum
+pub mod Theorems

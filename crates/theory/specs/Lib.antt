@@ -4,3 +4,5 @@ pub mod Sums
 pub mod Bernoulli
 pub mod Direct
 pub mod Doubling
+pub mod Theorems
+pub mod Examples
