@@ -3,7 +3,7 @@
 -- none twice keeps every sum), one-to-one-meets (and meets every number).
 use mathlib.Core.Path.{_≡_, refl, ap, ap₂, sym, _∙_, subst}
 use mathlib.Core.Bool.{Bool, true, false}
-use mathlib.Core.Logic.{_≢_, _⊎_, inl, inr}
+use mathlib.Core.Logic.{_≢_, inl, inr}
 use Prim.Native.Nat.{ℕ, zero, suc, _+_, _*_, _≤_, _<_}
 use native.Mathlib.Nat.{lt-suc-self, le-step, lt-irrefl, zero-mul, one-mul, mul-one, le-of-eq}
 use native.Mathlib.Decide.{ℕ-discrete}

@@ -1,19 +1,18 @@
 -- The direct sum gives Bernoulli numbers.
 -- Main statements: direct-half-system (the powers of g below the middle are a half system), direct-gives.
-use mathlib.Core.Path.{_≡_, refl, ap, ap₂, sym, _∙_, subst}
+use mathlib.Core.Path.{_≡_, ap, sym, _∙_, subst}
 use mathlib.Core.Logic.{_≢_}
-use Prim.Native.Nat.{ℕ, zero, suc, _+_, _-_, _*_, _/_, _%_, _^_, _≤_, _<_}
+use Prim.Native.Nat.{ℕ, suc, _+_, _-_, _*_, _/_, _%_, _^_, _≤_, _<_}
 use native.Mathlib.Nat.{mod-lt, mod-mod, pos-of-ne-zero, pow-zero, zero-mod, zero-add}
-use native.Mathlib.Numerals.{add-one}
 use native.Mathlib.Omega.{arith}
 use lib.Pow.{pow-add}
-use Rattle.theory.specs.Residues.{minus, inverse}
+use Rattle.theory.specs.Residues.{minus}
 use Rattle.theory.specs.Sums.{sum}
 use Rattle.theory.specs.Pairs.{Sound}
 use Rattle.theory.specs.Bernoulli.{Recurrence}
 use Rattle.theory.specs.Direct.{terms-of, half-below, direct-quotient, direct-weight, direct-term, direct-sum, direct-result}
 use Rattle.theory.proofs.Sums.{sum-mul}
-use Rattle.theory.proofs.Congruence.{Cong, cong-refl, cong-sym, cong-trans, cong-of-eq, eq-cong, cong-eq, cong-add, cong-cancel, cong-mul, cong-mul-left, cong-pow, cong-rem, cong-mod, mod-cong, cong-multiple, unit-not-zero}
+use Rattle.theory.proofs.Congruence.{Cong, cong-refl, cong-sym, cong-trans, cong-of-eq, eq-cong, cong-eq, cong-add, cong-cancel, cong-mul, cong-mul-left, cong-pow, cong-rem, mod-cong, cong-multiple, unit-not-zero}
 use Rattle.theory.proofs.Modular.{pow-mul, pow-step, minus-cong}
 use Rattle.theory.proofs.Generators.{generator-exponents, generator-unit, quotient-is}
 use Rattle.theory.proofs.HalfSystems.{HalfSystem}

@@ -1,6 +1,6 @@
 -- The doubling sum gives Bernoulli numbers.
 -- Main statements: doubling-half-system (the points of the rows are a half system), doubling-gives.
-use mathlib.Core.Path.{_≡_, refl, ap, ap₂, sym, _∙_, subst}
+use mathlib.Core.Path.{_≡_, ap, ap₂, sym, _∙_, subst}
 use mathlib.Core.Logic.{_≢_}
 use Prim.Native.Nat.{ℕ, zero, suc, _+_, _-_, _*_, _/_, _%_, _^_, _≤_, _<_}
 use native.Mathlib.Nat.{mod-lt, pos-of-ne-zero, pow-suc, mul-one, mul-zero, mul-comm, mul-mul-mul-comm, zero-mod, zero-add, mod-add-div, eq-of-mul-eq-mul-right, div-lt-iff-lt-mul}
@@ -14,7 +14,7 @@ use Rattle.theory.specs.Direct.{terms-of}
 use Rattle.theory.specs.Doubling.{row-length, doubling-point, doubling-weight, doubling-term, doubling-sum, doubling-result}
 use Rattle.theory.proofs.Sums.{sum-mul}
 use Rattle.theory.proofs.Powers.{one-pow, mul-pow, pow-mul}
-use Rattle.theory.proofs.Congruence.{Cong, cong-refl, cong-sym, cong-trans, cong-of-eq, eq-cong, cong-eq, cong-add, cong-cancel, cong-cancel-right, cong-mul, cong-mul-left, cong-pow, cong-rem, cong-mod, mod-cong, cong-divide, unit-mul, unit-not-zero}
+use Rattle.theory.proofs.Congruence.{Cong, cong-refl, cong-sym, cong-trans, cong-of-eq, eq-cong, cong-eq, cong-add, cong-cancel, cong-mul, cong-mul-left, cong-pow, cong-rem, mod-cong, cong-divide, unit-mul, unit-not-zero}
 use Rattle.theory.proofs.Modular.{minus-cong, doubling-point-under}
 use Rattle.theory.proofs.Generators.{generator-exponents, generator-unit, inverse-is, quotient-is}
 use Rattle.theory.proofs.OrderOfTwo.{half-of-one, two-cancel, two-not-zero, between, cong-leaves, row-length-positive, row-length-returns, row-length-first}

@@ -2,15 +2,15 @@
 -- Main statements: generator-exponents (powers of g below p − 1 are different), sound-unit (a
 -- residue other than 0 has an inverse), sound-cancel, fermat, inverse-is, quotient-is.
 use mathlib.Core.Path.{_≡_, refl, ap, sym, _∙_, subst}
-use mathlib.Core.Logic.{_≢_, _⊎_, inl, inr}
-use Prim.Native.Nat.{ℕ, zero, suc, _+_, _-_, _*_, _/_, _%_, _^_, _≤_, _<_}
+use mathlib.Core.Logic.{_≢_, inl, inr}
+use Prim.Native.Nat.{ℕ, zero, suc, _-_, _*_, _%_, _^_, _≤_, _<_}
 use native.Mathlib.Nat.{mod-lt, mod-eq-of-lt, pow-suc, eq-or-lt-of-le, mul-one, mul-comm}
 use native.Mathlib.Omega.{arith}
 use Rattle.theory.specs.Residues.{inverse}
 use Rattle.theory.specs.Pairs.{Sound}
 use Rattle.theory.proofs.Powers.{pow-one, one-pow, pow-mul}
 use Rattle.theory.proofs.Congruence.{Cong, cong-refl, cong-sym, cong-trans, cong-of-eq, eq-cong, cong-eq, cong-mul, cong-mul-left, cong-pow, cong-rem, cong-mod, mod-cong, cong-divide, unit-pow}
-use Rattle.theory.proofs.Counting.{Within, Onto, OneToOne, onto-one-to-one}
+use Rattle.theory.proofs.Counting.{Within, Onto, onto-one-to-one}
 
 -- 1 is a residue of its own
 pub one-leaves : {p : ℕ} → 1 < p → 1 % p ≡ 1

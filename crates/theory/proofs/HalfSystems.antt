@@ -1,13 +1,13 @@
 -- Half systems: (p − 1)/2 residues that with their negatives are all residues other than 0.
 -- Main statements: half-sum (a sum over all residues is a sum over the points and their negatives).
-use mathlib.Core.Path.{_≡_, refl, ap, ap₂, sym, _∙_, subst}
-use mathlib.Core.Logic.{_≢_, _⊎_, inl, inr}
-use Prim.Native.Nat.{ℕ, zero, suc, _+_, _-_, _*_, _%_, _≤_, _<_}
+use mathlib.Core.Path.{_≡_, refl, ap, ap₂, sym, _∙_}
+use mathlib.Core.Logic.{_⊎_, inl, inr}
+use Prim.Native.Nat.{ℕ, zero, suc, _+_, _-_, _*_, _<_}
 use native.Mathlib.Decide.{decLt}
 use native.Mathlib.Omega.{arith}
 use Rattle.theory.specs.Sums.{sum}
 use Rattle.theory.proofs.Sums.{sum-first, sum-split, sum-ext}
-use Rattle.theory.proofs.Congruence.{Cong, cong-refl, cong-sym, cong-trans, cong-of-eq, eq-cong, cong-eq}
+use Rattle.theory.proofs.Congruence.{Cong, cong-sym, cong-trans, cong-of-eq, eq-cong}
 use Rattle.theory.proofs.Counting.{Within, OneToOne, one-to-one-sum}
 
 -- h points between 0 and p whose squares are all different modulo p

@@ -11,4 +11,5 @@ pub mod Multipliers
 pub mod OrderOfTwo
 pub mod DirectSum
 pub mod DoublingSum
+pub mod Digits
 pub mod Theorems

@@ -3,18 +3,18 @@
 -- signed-under, mul-signed; sum-mod; the sums of both kinds one term further (direct-sum-step, doubling-sum-step),
 -- and their points and weights (direct-point-step, direct-weight-step, doubling-point-place, doubling-point-row,
 -- doubling-weight-place, doubling-weight-row).
-use mathlib.Core.Path.{_≡_, refl, ap, ap₂, sym, _∙_, subst}
+use mathlib.Core.Path.{_≡_, refl, ap, ap₂, sym, _∙_}
 use Prim.Native.Nat.{ℕ, zero, suc, _+_, _-_, _*_, _/_, _%_, _^_, _≤_, _<_}
-use native.Mathlib.Nat.{mod-lt, mod-eq-of-lt, mod-mod, zero-mod, mod-add-mod, add-mod-mod, add-sub-of-le, le-of-lt, pow-zero, pow-suc, pow-succ', mul-one, mul-comm, zero-mul, suc-mul, mul-zero, zero-add}
+use native.Mathlib.Nat.{mod-lt, mod-mod, zero-mod, mod-add-mod, pow-zero, pow-suc, pow-succ', zero-mul, mul-zero}
 use native.Mathlib.Numerals.{add-one}
 use native.Mathlib.Omega.{arith}
 use lib.Pow.{pow-add}
 use Rattle.theory.specs.Residues.{minus, inverse, signed}
 use Rattle.theory.specs.Sums.{sum}
-use Rattle.theory.specs.Direct.{terms-of, half-below, direct-point, direct-quotient, direct-weight, direct-term, direct-sum}
+use Rattle.theory.specs.Direct.{half-below, direct-point, direct-quotient, direct-weight, direct-term, direct-sum}
 use Rattle.theory.specs.Doubling.{row-length, doubling-point, doubling-weight, doubling-term, doubling-sum}
 use Rattle.theory.proofs.Sums.{sum-zero, sum-suc}
-use Rattle.theory.proofs.Congruence.{Cong, cong-refl, cong-sym, cong-trans, cong-of-eq, eq-cong, cong-eq, cong-add, cong-cancel-right, cong-mul, cong-mul-left, cong-pow, cong-rem, cong-mod, mod-cong, cong-under, cong-zero, sum-cong}
+use Rattle.theory.proofs.Congruence.{Cong, cong-refl, cong-sym, cong-trans, cong-of-eq, eq-cong, cong-add, cong-cancel-right, cong-mul, cong-mul-left, cong-pow, cong-rem, cong-mod, mod-cong, cong-under, cong-zero, sum-cong}
 pub use Rattle.theory.proofs.Powers.{pow-one, one-pow, zero-pow, mul-pow, pow-mul}
 
 -- products and powers

@@ -1,10 +1,10 @@
 -- A multiplier c over a half system of points: the theorem that makes both sums Bernoulli numbers.
 -- Main statements: multiplied (c^k·b_k is b_k + k·Q, with Q the sum of the quotients times powers of the residues),
 -- half-system-sum (c^k·b_k + k·E is b_k, with E a sum over the points of a half system).
-use mathlib.Core.Path.{_≡_, refl, ap, ap₂, sym, _∙_, subst}
+use mathlib.Core.Path.{_≡_, refl, ap, ap₂, sym, _∙_}
 use mathlib.Core.Logic.{_≢_}
-use Prim.Native.Nat.{ℕ, zero, suc, _+_, _-_, _*_, _/_, _%_, _^_, _≤_, _<_}
-use native.Mathlib.Nat.{mod-lt, mod-eq-of-lt, pow-suc, mod-add-div, mul-comm, zero-div, mul-zero, zero-mul, div-lt-iff-lt-mul, mul-lt-mul-of-pos-left, pos-of-ne-zero, zero-mod}
+use Prim.Native.Nat.{ℕ, suc, _+_, _-_, _*_, _/_, _%_, _^_, _≤_, _<_}
+use native.Mathlib.Nat.{mod-lt, mod-eq-of-lt, pow-suc, mod-add-div, zero-div, mul-zero, zero-mul, div-lt-iff-lt-mul, mul-lt-mul-of-pos-left, pos-of-ne-zero, zero-mod}
 use native.Mathlib.Omega.{arith}
 use lib.Pow.{pow-add}
 use lib.Arith.{digits-div, digits-mod}
@@ -13,7 +13,7 @@ use Rattle.theory.specs.Pairs.{Sound}
 use Rattle.theory.specs.Bernoulli.{Recurrence}
 use Rattle.theory.proofs.Sums.{sum-ext, sum-add, sum-mul, sum-nought}
 use Rattle.theory.proofs.Powers.{mul-pow}
-use Rattle.theory.proofs.Congruence.{Cong, cong-refl, cong-sym, cong-trans, cong-of-eq, eq-cong, cong-eq, cong-add, cong-cancel, cong-subtract, cong-mul, cong-mul-left, cong-pow, cong-rem, cong-mod, mod-cong, cong-under, cong-unscale, cong-zero, sum-cong}
+use Rattle.theory.proofs.Congruence.{Cong, cong-refl, cong-sym, cong-trans, cong-of-eq, eq-cong, cong-eq, cong-add, cong-cancel, cong-mul, cong-mul-left, cong-pow, mod-cong, cong-under, cong-unscale, cong-zero, sum-cong}
 use Rattle.theory.proofs.Binomials.{two-terms}
 use Rattle.theory.proofs.Counting.{Within, OneToOne, one-to-one-sum}
 use Rattle.theory.proofs.Generators.{sound-cancel}

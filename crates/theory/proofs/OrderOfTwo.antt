@@ -4,16 +4,16 @@
 -- 1), order-is-least-divisor.
 use mathlib.Core.Path.{_≡_, refl, ap, ap₂, sym, _∙_, subst}
 use mathlib.Core.Bool.{Bool, true, false, cond}
-use mathlib.Core.Logic.{_≢_, _⊎_, inl, inr, _↔_}
+use mathlib.Core.Logic.{_≢_, _⊎_, inl, inr}
 use Prim.Native.Nat.{ℕ, zero, suc, _+_, _-_, _*_, _/_, _%_, _^_, _≤_, _<_}
-use native.Mathlib.Nat.{mod-lt, mod-eq-of-lt, mod-eq-sub-mod, zero-mod, pow-zero, mod-add-div, mul-one, mul-zero, eq-zero-or-pos, eq-or-lt-of-le, pos-of-ne-zero, mul-mod-right, zero-add}
+use native.Mathlib.Nat.{mod-lt, mod-eq-of-lt, mod-eq-sub-mod, mod-add-div, mul-one, eq-zero-or-pos, eq-or-lt-of-le, mul-mod-right}
 use native.Mathlib.Decide.{decLt}
 use native.Mathlib.Omega.{arith}
 use lib.Pow.{pow-add}
 use lib.Dec.{eqb, eqb→eq, eqb-refl, T}
 use Rattle.theory.specs.Doubling.{Order, first-one, order, row-length}
 use Rattle.theory.proofs.Powers.{one-pow, pow-mul}
-use Rattle.theory.proofs.Congruence.{Cong, cong-refl, cong-sym, cong-trans, cong-of-eq, eq-cong, cong-eq, cong-mul, cong-mul-left, cong-pow, cong-mod, mod-cong, cong-divide, unit-pow, unit-not-zero}
+use Rattle.theory.proofs.Congruence.{Cong, cong-sym, cong-trans, eq-cong, cong-eq, cong-mul-left, cong-pow, cong-mod, mod-cong, cong-divide, unit-pow, unit-not-zero}
 use Rattle.theory.proofs.Counting.{OneToOne, one-to-one-meets}
 
 -- a power of 2 that leaves 1, as a congruence

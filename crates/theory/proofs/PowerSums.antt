@@ -1,10 +1,9 @@
 -- Sums of powers, and the Bernoulli numbers modulo p in them.
 -- Main statements: telescoped (the recurrence of the sums of powers), solution (the recurrence modulo p has a
 -- solution), one-solution (and one only), power-sums (p·b_n and the sum of the n-th powers agree modulo p²).
-use mathlib.Core.Path.{_≡_, refl, ap, ap₂, sym, _∙_, subst}
-use mathlib.Core.Logic.{_≢_, _⊎_, inl, inr}
+use mathlib.Core.Path.{_≡_, refl, ap, sym, _∙_}
 use Prim.Native.Nat.{ℕ, zero, suc, _+_, _-_, _*_, _/_, _%_, _^_, _≤_, _<_}
-use native.Mathlib.Nat.{mod-lt, mod-eq-of-lt, zero-mod, pow-zero, pow-suc, mod-add-div, mul-one, mul-zero, mul-comm, div-self, lt-trans, eq-of-mul-eq-mul-left}
+use native.Mathlib.Nat.{mod-lt, mod-eq-of-lt, zero-mod, pow-zero, pow-suc, mod-add-div, mul-one, mul-zero, mul-comm, div-self}
 use native.Mathlib.Numerals.{add-one}
 use native.Mathlib.Omega.{arith}
 use Rattle.theory.specs.Sums.{sum}
@@ -12,7 +11,7 @@ use Rattle.theory.specs.Pairs.{Sound}
 use Rattle.theory.specs.Bernoulli.{choose, Recurrence}
 use Rattle.theory.proofs.Sums.{sum-zero, sum-suc, sum-ext, sum-add, sum-mul, sum-const, sum-nought}
 use Rattle.theory.proofs.Powers.{zero-pow}
-use Rattle.theory.proofs.Congruence.{Cong, cong-refl, cong-sym, cong-trans, cong-of-eq, eq-cong, cong-eq, cong-add, cong-cancel, cong-subtract, cong-mul-left, cong-rem, cong-mod, mod-cong, cong-under, cong-scale, cong-unscale, cong-zero, sum-cong}
+use Rattle.theory.proofs.Congruence.{Cong, cong-sym, cong-trans, cong-of-eq, eq-cong, cong-eq, cong-add, cong-subtract, cong-mul-left, cong-rem, cong-mod, mod-cong, cong-under, cong-scale, cong-unscale, cong-zero, sum-cong}
 use Rattle.theory.proofs.Binomials.{choose-self, choose-below, binomial}
 use Rattle.theory.proofs.Generators.{one-leaves, sound-cancel}
 

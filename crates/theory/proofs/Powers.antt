@@ -1,7 +1,7 @@
 -- Powers of numbers.
 -- Main statements: one-pow, zero-pow, mul-pow, pow-mul.
-use mathlib.Core.Path.{_≡_, refl, ap, ap₂, sym, _∙_}
-use Prim.Native.Nat.{ℕ, zero, suc, _+_, _*_, _^_}
+use mathlib.Core.Path.{_≡_, ap, ap₂, sym, _∙_}
+use Prim.Native.Nat.{ℕ, zero, suc, _*_, _^_}
 use native.Mathlib.Nat.{pow-zero, pow-suc, mul-zero, mul-suc}
 use native.Mathlib.Omega.{arith}
 use lib.Pow.{pow-add}

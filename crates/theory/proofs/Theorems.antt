@@ -9,8 +9,6 @@ use native.Mathlib.Decide.{decLt}
 use native.Mathlib.Numerals.{add-one}
 use native.Mathlib.Omega.{arith}
 use Rattle.theory.specs.Sums.{sum}
-use Rattle.theory.specs.Pairs.{Sound}
-use Rattle.theory.specs.Bernoulli.{Recurrence}
 use Rattle.theory.specs.Theorems.{power-sum, Bernoulli-exist, Bernoulli-unique, Power-sums-give-bernoulli, Direct-gives-bernoulli, Doubling-gives-bernoulli, Sound-rows-fit, Order-computed, Rows-fit, Order-least-divisor}
 use Rattle.theory.proofs.Sums.{sum-first, sum-ext}
 use Rattle.theory.proofs.Powers.{zero-pow}
