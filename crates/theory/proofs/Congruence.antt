@@ -92,6 +92,19 @@ cong-mod {m} {a} {b} e =
 pub mod-cong : {m a b : ℕ} → a % m ≡ b % m → Cong m a b
 mod-cong {m} {a} {b} e = cong-trans (cong-sym (cong-rem m a)) (eq-cong e (cong-rem m b))
 
+-- the remainders 0 and 1
+pub mod-zero-cong : {m a : ℕ} → a % m ≡ 0 → Cong m a 0
+mod-zero-cong {m} e = mod-cong (e ∙ sym (zero-mod m))
+
+pub cong-mod-zero : {m a : ℕ} → Cong m a 0 → a % m ≡ 0
+cong-mod-zero {m} e = cong-mod e ∙ zero-mod m
+
+pub mod-one-cong : {m a : ℕ} → 1 < m → a % m ≡ 1 → Cong m a 1
+mod-one-cong big e = mod-cong (e ∙ sym (mod-eq-of-lt big))
+
+pub cong-mod-one : {m a : ℕ} → 1 < m → Cong m a 1 → a % m ≡ 1
+cong-mod-one big e = cong-mod e ∙ mod-eq-of-lt big
+
 -- congruent numbers below m are equal
 pub cong-under : {m a b : ℕ} → a < m → b < m → Cong m a b → a ≡ b
 cong-under p q e = sym (mod-eq-of-lt p) ∙ cong-mod e ∙ mod-eq-of-lt q
@@ -110,7 +123,7 @@ unit-not-zero {m} c a big unit e =
     (cong-under
     (le-of-lt big)
     big
-    (cong-trans (cong-sym (cong-eq (cong-mul-left c (mod-cong (e ∙ sym (zero-mod m)))) (mul-zero c))) unit))
+    (cong-trans (cong-sym (cong-eq (cong-mul-left c (mod-zero-cong e)) (mul-zero c))) unit))
 
 -- from m to the multiples of m, and back
 pub cong-scale : {m a b : ℕ} (c : ℕ) → Cong m a b → Cong (c * m) (c * a) (c * b)

@@ -28,6 +28,7 @@ digit-is p x u v pos = ap (λ (z : ℕ). z % 2) high ∙ double-digit p (2 ^ u *
     powers : 2 ^ (suc u + v) * x ≡ 2 ^ v * (2 * (2 ^ u * x))
     powers =
         ap (λ (z : ℕ). z * x) (pow-add 2 (suc u) v ∙ ap (λ (z : ℕ). z * 2 ^ v) (pow-succ' 2 u)) ∙ omega arith
+
     high : 2 ^ (suc u + v) * x / p / 2 ^ v ≡ 2 * (2 ^ u * x) / p
     high =
         div-div-eq-div-mul (2 ^ (suc u + v) * x) p (2 ^ v)
@@ -47,10 +48,10 @@ pub doubling-term-digit
     : (p g k i j u v : ℕ)
     → 0 < p
     → doubling-term p g k i (j + u)
-        ≡ signed p (2 ^ (suc u + v) * doubling-point p g i j / p / 2 ^ v % 2) (doubling-weight p g k i (j + u))
+    ≡ signed p (2 ^ (suc u + v) * doubling-point p g i j / p / 2 ^ v % 2) (doubling-weight p g k i (j + u))
 unfolding doubling-term
 doubling-term-digit p g k i j u v pos =
     ap
-      (λ (z : ℕ). signed p z (doubling-weight p g k i (j + u)))
-      (ap (λ (z : ℕ). 2 * z / p) (doubling-point-places p g i j u)
-      ∙ sym (digit-is p (doubling-point p g i j) u v pos))
+    (λ (z : ℕ). signed p z (doubling-weight p g k i (j + u)))
+    (ap (λ (z : ℕ). 2 * z / p) (doubling-point-places p g i j u)
+    ∙ sym (digit-is p (doubling-point p g i j) u v pos))

@@ -3,7 +3,7 @@
 use mathlib.Core.Path.{_≡_, ap, sym, _∙_, subst}
 use mathlib.Core.Logic.{_≢_}
 use Prim.Native.Nat.{ℕ, suc, _+_, _-_, _*_, _/_, _%_, _^_, _≤_, _<_}
-use native.Mathlib.Nat.{mod-lt, mod-mod, pos-of-ne-zero, pow-zero, zero-mod, zero-add}
+use native.Mathlib.Nat.{mod-lt, mod-mod, pos-of-ne-zero, pow-zero, zero-add}
 use native.Mathlib.Omega.{arith}
 use lib.Pow.{pow-add}
 use Rattle.theory.specs.Residues.{minus}
@@ -12,7 +12,7 @@ use Rattle.theory.specs.Pairs.{Sound}
 use Rattle.theory.specs.Bernoulli.{Recurrence}
 use Rattle.theory.specs.Direct.{terms-of, half-below, direct-quotient, direct-weight, direct-term, direct-sum, direct-result}
 use Rattle.theory.proofs.Sums.{sum-mul}
-use Rattle.theory.proofs.Congruence.{Cong, cong-refl, cong-sym, cong-trans, cong-of-eq, eq-cong, cong-eq, cong-add, cong-cancel, cong-mul, cong-mul-left, cong-pow, cong-rem, mod-cong, cong-multiple, unit-not-zero}
+use Rattle.theory.proofs.Congruence.{Cong, cong-refl, cong-sym, cong-trans, cong-of-eq, eq-cong, cong-eq, cong-add, cong-cancel, cong-mul, cong-mul-left, cong-pow, cong-rem, mod-cong, mod-zero-cong, cong-multiple, unit-not-zero}
 use Rattle.theory.proofs.Modular.{pow-mul, pow-step, minus-cong}
 use Rattle.theory.proofs.Generators.{generator-exponents, generator-unit, quotient-is}
 use Rattle.theory.proofs.HalfSystems.{HalfSystem}
@@ -157,7 +157,7 @@ module _ (p g : ℕ) (big : 1 < p) (sound : Sound p g) (h : ℕ) (odd : p ≡ su
             eq-cong
             (sym (zero-add (g ^ k)))
             (cong-trans
-            (cong-sym (cong-add (mod-cong {b = 0} (e ∙ sym (zero-mod p))) (cong-refl (g ^ k))))
+            (cong-sym (cong-add (mod-zero-cong e) (cong-refl (g ^ k))))
             (minus-cong p 1 (g ^ k) (omega arith)))
 
     pub direct-gives : (b : ℕ → ℕ) → Recurrence p b → b k ≡ direct-result p g k

@@ -3,7 +3,7 @@
 use mathlib.Core.Path.{_≡_, ap, ap₂, sym, _∙_, subst}
 use mathlib.Core.Logic.{_≢_}
 use Prim.Native.Nat.{ℕ, zero, suc, _+_, _-_, _*_, _/_, _%_, _^_, _≤_, _<_}
-use native.Mathlib.Nat.{mod-lt, pos-of-ne-zero, pow-suc, mul-one, mul-zero, mul-comm, mul-mul-mul-comm, zero-mod, zero-add, mod-add-div, eq-of-mul-eq-mul-right, div-lt-iff-lt-mul}
+use native.Mathlib.Nat.{mod-lt, pos-of-ne-zero, pow-suc, mul-one, mul-zero, mul-comm, mul-mul-mul-comm, zero-add, mod-add-div, eq-of-mul-eq-mul-right, div-lt-iff-lt-mul}
 use native.Mathlib.Omega.{arith}
 use lib.Pow.{pow-add}
 use Rattle.theory.specs.Residues.{minus, inverse, signed}
@@ -14,10 +14,10 @@ use Rattle.theory.specs.Direct.{terms-of}
 use Rattle.theory.specs.Doubling.{row-length, doubling-point, doubling-weight, doubling-term, doubling-sum, doubling-result}
 use Rattle.theory.proofs.Sums.{sum-mul}
 use Rattle.theory.proofs.Powers.{one-pow, mul-pow, pow-mul}
-use Rattle.theory.proofs.Congruence.{Cong, cong-refl, cong-sym, cong-trans, cong-of-eq, eq-cong, cong-eq, cong-add, cong-cancel, cong-mul, cong-mul-left, cong-pow, cong-rem, mod-cong, cong-divide, unit-mul, unit-not-zero}
+use Rattle.theory.proofs.Congruence.{Cong, cong-refl, cong-sym, cong-trans, cong-of-eq, eq-cong, cong-eq, cong-add, cong-cancel, cong-mul, cong-mul-left, cong-pow, cong-rem, mod-zero-cong, cong-mod-one, cong-divide, unit-mul, unit-not-zero}
 use Rattle.theory.proofs.Modular.{minus-cong, doubling-point-under}
 use Rattle.theory.proofs.Generators.{generator-exponents, generator-unit, inverse-is, quotient-is}
-use Rattle.theory.proofs.OrderOfTwo.{half-of-one, two-cancel, two-not-zero, between, cong-leaves, row-length-positive, row-length-returns, row-length-first}
+use Rattle.theory.proofs.OrderOfTwo.{half-of-one, two-cancel, two-not-zero, between, row-length-positive, row-length-returns, row-length-first}
 use Rattle.theory.proofs.HalfSystems.{HalfSystem}
 use Rattle.theory.proofs.Multipliers.{half-system-sum}
 
@@ -298,8 +298,7 @@ module _ (p g : ℕ) (big : 1 < p) (sound : Sound p g) (h : ℕ) (odd : p ≡ su
     doubling-divisor : 2 ^ k % p ≢ 1 → 2 * difference % p ≢ 0
     doubling-divisor ne e =
         ne
-        (cong-leaves
-        k
+        (cong-mod-one
         big
         (eq-cong
         (sym (zero-add (2 ^ k)))
@@ -307,7 +306,7 @@ module _ (p g : ℕ) (big : 1 < p) (sound : Sound p g) (h : ℕ) (odd : p ≡ su
         (cong-add
         (cong-sym
         (cong-eq
-        (cong-mul-left (2 ^ suc (t + t)) (mod-cong (e ∙ sym (zero-mod p))))
+        (cong-mul-left (2 ^ suc (t + t)) (mod-zero-cong e))
         (mul-zero (2 ^ suc (t + t)))))
         (cong-refl (2 ^ k)))
         divisor-is)))

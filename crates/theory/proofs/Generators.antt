@@ -9,12 +9,8 @@ use native.Mathlib.Omega.{arith}
 use Rattle.theory.specs.Residues.{inverse}
 use Rattle.theory.specs.Pairs.{Sound}
 use Rattle.theory.proofs.Powers.{pow-one, one-pow, pow-mul}
-use Rattle.theory.proofs.Congruence.{Cong, cong-refl, cong-sym, cong-trans, cong-of-eq, eq-cong, cong-eq, cong-mul, cong-mul-left, cong-pow, cong-rem, cong-mod, mod-cong, cong-divide, unit-pow}
+use Rattle.theory.proofs.Congruence.{Cong, cong-refl, cong-sym, cong-trans, cong-of-eq, eq-cong, cong-eq, cong-mul, cong-mul-left, cong-pow, cong-rem, cong-mod, mod-cong, mod-one-cong, cong-divide, unit-pow}
 use Rattle.theory.proofs.Counting.{Within, Onto, onto-one-to-one}
-
--- 1 is a residue of its own
-pub one-leaves : {p : ℕ} → 1 < p → 1 % p ≡ 1
-one-leaves big = mod-eq-of-lt big
 
 -- the powers of g from the first, with 0 in front: a map of the numbers below p
 table : ℕ → ℕ → ℕ → ℕ
@@ -65,7 +61,7 @@ module _ (p g : ℕ) (big : 1 < p) (sound : Sound p g) where
       one = sound 1 (omega arith) (omega arith)
 
       leaves : Cong p (g ^ one .0) 1
-      leaves = mod-cong (one .3 ∙ sym (one-leaves big))
+      leaves = mod-one-cong big (one .3)
 
       early : one .0 < p - 1 → ⊥
       early u =

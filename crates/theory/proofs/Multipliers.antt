@@ -4,7 +4,7 @@
 use mathlib.Core.Path.{_≡_, refl, ap, ap₂, sym, _∙_}
 use mathlib.Core.Logic.{_≢_}
 use Prim.Native.Nat.{ℕ, suc, _+_, _-_, _*_, _/_, _%_, _^_, _≤_, _<_}
-use native.Mathlib.Nat.{mod-lt, mod-eq-of-lt, pow-suc, mod-add-div, zero-div, mul-zero, zero-mul, div-lt-iff-lt-mul, mul-lt-mul-of-pos-left, pos-of-ne-zero, zero-mod}
+use native.Mathlib.Nat.{mod-lt, mod-eq-of-lt, pow-suc, mod-add-div, zero-div, mul-zero, zero-mul, div-lt-iff-lt-mul, mul-lt-mul-of-pos-left, pos-of-ne-zero}
 use native.Mathlib.Omega.{arith}
 use lib.Pow.{pow-add}
 use lib.Arith.{digits-div, digits-mod}
@@ -13,7 +13,7 @@ use Rattle.theory.specs.Pairs.{Sound}
 use Rattle.theory.specs.Bernoulli.{Recurrence}
 use Rattle.theory.proofs.Sums.{sum-ext, sum-add, sum-mul, sum-nought}
 use Rattle.theory.proofs.Powers.{mul-pow}
-use Rattle.theory.proofs.Congruence.{Cong, cong-refl, cong-sym, cong-trans, cong-of-eq, eq-cong, cong-eq, cong-add, cong-cancel, cong-mul, cong-mul-left, cong-pow, mod-cong, cong-under, cong-unscale, cong-zero, sum-cong}
+use Rattle.theory.proofs.Congruence.{Cong, cong-refl, cong-sym, cong-trans, cong-of-eq, eq-cong, cong-eq, cong-add, cong-cancel, cong-mul, cong-mul-left, cong-pow, mod-cong, mod-zero-cong, cong-under, cong-unscale, cong-zero, sum-cong}
 use Rattle.theory.proofs.Binomials.{two-terms}
 use Rattle.theory.proofs.Counting.{Within, OneToOne, one-to-one-sum}
 use Rattle.theory.proofs.Generators.{sound-cancel}
@@ -103,7 +103,7 @@ module _ (p g : ℕ) (big : 1 < p) (sound : Sound p g) (c : ℕ) (cpos : 0 < c) 
             sound
             c
             not-zero
-            (cong-eq (mod-cong (e ∙ sym (zero-mod p))) (sym (mul-zero c)))),
+            (cong-eq (mod-zero-cong e) (sym (mul-zero c)))),
       )
 
   times-within : Within p (λ y. c * y % p)

@@ -13,15 +13,8 @@ use lib.Pow.{pow-add}
 use lib.Dec.{eqb, eqb→eq, eqb-refl, T}
 use Rattle.theory.specs.Doubling.{Order, first-one, order, row-length}
 use Rattle.theory.proofs.Powers.{one-pow, pow-mul}
-use Rattle.theory.proofs.Congruence.{Cong, cong-sym, cong-trans, eq-cong, cong-eq, cong-mul-left, cong-pow, cong-mod, mod-cong, cong-divide, unit-pow, unit-not-zero}
+use Rattle.theory.proofs.Congruence.{Cong, cong-sym, cong-trans, eq-cong, cong-eq, cong-mul-left, cong-pow, mod-cong, mod-one-cong, cong-mod-one, cong-divide, unit-pow, unit-not-zero}
 use Rattle.theory.proofs.Counting.{OneToOne, one-to-one-meets}
-
--- a power of 2 that leaves 1, as a congruence
-pub leaves-cong : {p : ℕ} (e : ℕ) → 1 < p → 2 ^ e % p ≡ 1 → Cong p (2 ^ e) 1
-leaves-cong e big one = mod-cong (one ∙ sym (mod-eq-of-lt big))
-
-pub cong-leaves : {p : ℕ} (e : ℕ) → 1 < p → Cong p (2 ^ e) 1 → 2 ^ e % p ≡ 1
-cong-leaves e big one = cong-mod one ∙ mod-eq-of-lt big
 
 -- a test that passes, and one that fails
 passed : (a b : ℕ) → eqb a b ≡ true → a ≡ b
@@ -84,7 +77,7 @@ order-unique p m n a b = omega (arith, not-below m n a b, not-below n m b a)
 
 module _ (p n : ℕ) (big : 1 < p) (is : Order p n) where
   pub order-multiple : (c : ℕ) → Cong p (2 ^ (n * c)) 1
-  order-multiple c = eq-cong (pow-mul 2 n c) (cong-eq (cong-pow c (leaves-cong n big (is .leaves-one))) (one-pow c))
+  order-multiple c = eq-cong (pow-mul 2 n c) (cong-eq (cong-pow c (mod-one-cong big (is .leaves-one))) (one-pow c))
 
   pub order-divides : (e : ℕ) → Cong p (2 ^ e) 1 → e % n ≡ 0
   order-divides e one = elim (eq-zero-or-pos (e % n)) [ inl z ↦ z | inr u ↦ absurd (early u) ]
@@ -101,7 +94,7 @@ module _ (p n : ℕ) (big : 1 < p) (is : Order p n) where
           (e % n)
           u
           (mod-lt e (is .positive))
-          (cong-leaves (e % n) big (cong-trans (cong-sym rest) one))
+          (cong-mod-one big (cong-trans (cong-sym rest) one))
 
 -- an odd modulus
 module _ (p h : ℕ) (odd : p ≡ suc (h + h)) (some : 0 < h) where
@@ -157,7 +150,7 @@ module _ (p h : ℕ) (odd : p ≡ suc (h + h)) (some : 0 < h) where
               (b - a)
               (omega arith)
               (omega arith)
-              (cong-leaves (b - a) (omega arith) (between a b u (mod-cong d)))
+              (cong-mod-one (omega arith) (between a b u (mod-cong d)))
 
   -- the length of a row: half the order, or the whole of an odd one
   row-length-is
@@ -180,7 +173,7 @@ module _ (p h : ℕ) (odd : p ≡ suc (h + h)) (some : 0 < h) where
   pub row-length-returns : Cong p (2 ^ (row-length p + row-length p)) 1
   row-length-returns =
       elim row-length-is [
-        | inl e ↦ subst (λ (z : ℕ). Cong p (2 ^ z) 1) e (leaves-cong (order p) big (order-is .leaves-one))
+        | inl e ↦ subst (λ (z : ℕ). Cong p (2 ^ z) 1) e (mod-one-cong big (order-is .leaves-one))
         | inr e ↦ subst
             (λ (z : ℕ). Cong p (2 ^ z) 1)
             (omega (arith, e .0))
@@ -190,7 +183,7 @@ module _ (p h : ℕ) (odd : p ≡ suc (h + h)) (some : 0 < h) where
   pub row-length-first : (d : ℕ) → 0 < d → d < row-length p → ¬ (Cong p (2 ^ (d + d)) 1)
   row-length-first d dpos u one =
       elim row-length-is [
-        | inl e ↦ order-is .least (d + d) (omega arith) (omega (arith, e)) (cong-leaves (d + d) big one)
+        | inl e ↦ order-is .least (d + d) (omega arith) (omega (arith, e)) (cong-mod-one big one)
         | inr e ↦ odd-order (e .0) (e .1)
       ]
     where
@@ -210,8 +203,7 @@ module _ (p h : ℕ) (odd : p ≡ suc (h + h)) (some : 0 < h) where
   -- where 2n′ divides p − 1, 2^(p − 1) leaves 1
   pub rows-fit-leaves : (p - 1) % (2 * row-length p) ≡ 0 → 2 ^ (p - 1) % p ≡ 1
   rows-fit-leaves fit =
-      cong-leaves
-      (p - 1)
+      cong-mod-one
       big
       (eq-cong
       (ap (λ (z : ℕ). 2 ^ z) rows ∙ pow-mul 2 (row-length p + row-length p) ((p - 1) / (2 * row-length p)))
@@ -224,7 +216,7 @@ module _ (p h : ℕ) (odd : p ≡ suc (h + h)) (some : 0 < h) where
 
   -- where 2^(p − 1) leaves 1, the order divides p − 1
   pub order-divides-whole : 2 ^ (p - 1) % p ≡ 1 → (p - 1) % order p ≡ 0
-  order-divides-whole one = order-divides p (order p) big order-is (p - 1) (leaves-cong (p - 1) big one)
+  order-divides-whole one = order-divides p (order p) big order-is (p - 1) (mod-one-cong big one)
 
   -- and so does 2n′, since p − 1 is even
   pub leaves-rows-fit : 2 ^ (p - 1) % p ≡ 1 → (p - 1) % (2 * row-length p) ≡ 0

@@ -3,7 +3,7 @@
 -- solution), one-solution (and one only), power-sums (p·b_n and the sum of the n-th powers agree modulo p²).
 use mathlib.Core.Path.{_≡_, refl, ap, sym, _∙_}
 use Prim.Native.Nat.{ℕ, zero, suc, _+_, _-_, _*_, _/_, _%_, _^_, _≤_, _<_}
-use native.Mathlib.Nat.{mod-lt, mod-eq-of-lt, zero-mod, pow-zero, pow-suc, mod-add-div, mul-one, mul-zero, mul-comm, div-self}
+use native.Mathlib.Nat.{mod-lt, mod-eq-of-lt, pow-zero, pow-suc, mod-add-div, mul-one, mul-zero, mul-comm, div-self}
 use native.Mathlib.Numerals.{add-one}
 use native.Mathlib.Omega.{arith}
 use Rattle.theory.specs.Sums.{sum}
@@ -11,9 +11,9 @@ use Rattle.theory.specs.Pairs.{Sound}
 use Rattle.theory.specs.Bernoulli.{choose, Recurrence}
 use Rattle.theory.proofs.Sums.{sum-zero, sum-suc, sum-ext, sum-add, sum-mul, sum-const, sum-nought}
 use Rattle.theory.proofs.Powers.{zero-pow}
-use Rattle.theory.proofs.Congruence.{Cong, cong-sym, cong-trans, cong-of-eq, eq-cong, cong-eq, cong-add, cong-subtract, cong-mul-left, cong-rem, cong-mod, mod-cong, cong-under, cong-scale, cong-unscale, cong-zero, sum-cong}
+use Rattle.theory.proofs.Congruence.{Cong, cong-sym, cong-trans, cong-of-eq, eq-cong, cong-eq, cong-add, cong-subtract, cong-mul-left, cong-rem, mod-zero-cong, cong-mod-zero, cong-under, cong-scale, cong-unscale, cong-zero, sum-cong}
 use Rattle.theory.proofs.Binomials.{choose-self, choose-below, binomial}
-use Rattle.theory.proofs.Generators.{one-leaves, sound-cancel}
+use Rattle.theory.proofs.Generators.{sound-cancel}
 
 -- 0^n + 1^n + … + (m − 1)^n, where 0^0 is 1
 pub powers-below : ℕ → ℕ → ℕ
@@ -146,7 +146,7 @@ module _ (p g : ℕ) (big : 1 < p) (sound : Sound p g) where
   unfolding part
   part-is n u =
       sym (mod-add-div (powers-below p n) p)
-      ∙ ap (λ (z : ℕ). z + p * (powers-below p n / p)) (cong-mod (powers-divisible n u) ∙ zero-mod p)
+      ∙ ap (λ (z : ℕ). z + p * (powers-below p n / p)) (cong-mod-zero (powers-divisible n u))
       ∙ omega arith
 
   part-first : part 0 ≡ 1
@@ -172,14 +172,13 @@ module _ (p g : ℕ) (big : 1 < p) (sound : Sound p g) where
   solution = (
     (λ n. part n % p),
     record {
-      first = ap (λ (z : ℕ). z % p) part-first ∙ one-leaves big;
+      first = ap (λ (z : ℕ). z % p) part-first ∙ mod-eq-of-lt big;
       under = λ n _ _. mod-lt (part n) (omega arith);
       divided = λ n h u.
-          cong-mod
+          cong-mod-zero
           (cong-trans
           (left-cong (λ j. part j % p) part n (λ j _. cong-rem p (part j)))
-          (part-left n h u))
-          ∙ zero-mod p;
+          (part-left n h u));
     },
   )
 
@@ -189,7 +188,7 @@ module _ (p g : ℕ) (big : 1 < p) (sound : Sound p g) where
   solution-part b r n u = same-left b part (cong-of-eq (r .first ∙ sym part-first)) step (suc n) n (omega arith) u
     where
       step : (m : ℕ) → 1 ≤ m → m ≤ p - 3 → Cong p (left b m) (left part m)
-      step m h v = cong-trans (mod-cong (r .divided m h v ∙ sym (zero-mod p))) (cong-sym (part-left m h v))
+      step m h v = cong-trans (mod-zero-cong (r .divided m h v)) (cong-sym (part-left m h v))
 
   pub one-solution : (b c : ℕ → ℕ) → Recurrence p b → Recurrence p c → (n : ℕ) → n ≤ p - 3 → b n ≡ c n
   one-solution b c r s zero u = r .first ∙ sym (s .first)

@@ -12,10 +12,10 @@ use Rattle.theory.specs.Sums.{sum}
 use Rattle.theory.specs.Theorems.{power-sum, Bernoulli-exist, Bernoulli-unique, Power-sums-give-bernoulli, Direct-gives-bernoulli, Doubling-gives-bernoulli, Sound-rows-fit, Order-computed, Rows-fit, Order-least-divisor}
 use Rattle.theory.proofs.Sums.{sum-first, sum-ext}
 use Rattle.theory.proofs.Powers.{zero-pow}
-use Rattle.theory.proofs.Congruence.{cong-mod}
+use Rattle.theory.proofs.Congruence.{cong-mod, cong-mod-one}
 use Rattle.theory.proofs.Generators.{fermat}
 use Rattle.theory.proofs.PowerSums.{powers-below, powers-below-is, solution, one-solution, power-sums}
-use Rattle.theory.proofs.OrderOfTwo.{cong-leaves, two-not-zero, order-is, order-unique, rows-fit-leaves, leaves-rows-fit, order-divides-whole, order-is-least-divisor}
+use Rattle.theory.proofs.OrderOfTwo.{two-not-zero, order-is, order-unique, rows-fit-leaves, leaves-rows-fit, order-divides-whole, order-is-least-divisor}
 use Rattle.theory.proofs.DirectSum.{direct-gives}
 use Rattle.theory.proofs.DoublingSum.{doubling-gives}
 
@@ -112,7 +112,7 @@ sound-rows-fit p g fit sound =
     (p / 2)
     odd
     (omega arith)
-    (cong-leaves (p - 1) (omega arith) (fermat p g (omega arith) sound 2 two))
+    (cong-mod-one (omega arith) (fermat p g (omega arith) sound 2 two))
   where
     two : 2 % p ≢ 0
     two = two-not-zero p (p / 2) (odd-half p (fit .0)) (omega arith) 1
