@@ -1,5 +1,5 @@
 -- Sums of powers, and the Bernoulli numbers modulo p in them.
--- Main statements: telescoped (the recurrence of the sums of powers), solution (the recurrence modulo p has a
+-- Main statements: powers-recurrence (the recurrence of the sums of powers), solution (the recurrence modulo p has a
 -- solution), one-solution (and one only), power-sums (p·b_n and the sum of the n-th powers agree modulo p²).
 use mathlib.Core.Path.{_≡_, refl, ap, sym, _∙_}
 use Prim.Native.Nat.{ℕ, zero, suc, _+_, _-_, _*_, _/_, _%_, _^_, _≤_, _<_}
@@ -24,22 +24,22 @@ unfolding powers-below
 powers-below-is m n = refl
 
 -- the sum of the (x + 1)^(n + 1) − x^(n + 1), over the powers of x
-pub telescoped : (m n : ℕ) → sum (suc n) (λ j. choose (suc n) j * powers-below m j) ≡ m ^ suc n
+pub powers-recurrence : (m n : ℕ) → sum (suc n) (λ j. choose (suc n) j * powers-below m j) ≡ m ^ suc n
 unfolding powers-below
-telescoped zero n =
+powers-recurrence zero n =
     sum-nought
     (suc n)
     (λ j. choose (suc n) j * sum 0 (λ x. x ^ j))
     (λ j _. ap (λ (z : ℕ). choose (suc n) j * z) (sum-zero (λ x. x ^ j)) ∙ mul-zero (choose (suc n) j))
     ∙ sym (zero-pow n)
-telescoped (suc m) n =
+powers-recurrence (suc m) n =
     sum-ext
     (suc n)
     (λ j. choose (suc n) j * sum (suc m) (λ x. x ^ j))
     (λ j. choose (suc n) j * sum m (λ x. x ^ j) + choose (suc n) j * m ^ j)
     (λ j _. omega (arith, ap (λ (z : ℕ). choose (suc n) j * z) (sum-suc m (λ x. x ^ j))))
     ∙ sum-add (suc n) (λ j. choose (suc n) j * sum m (λ x. x ^ j)) (λ j. choose (suc n) j * m ^ j)
-    ∙ ap (λ (z : ℕ). z + sum (suc n) (λ j. choose (suc n) j * m ^ j)) (telescoped m n)
+    ∙ ap (λ (z : ℕ). z + sum (suc n) (λ j. choose (suc n) j * m ^ j)) (powers-recurrence m n)
     ∙ omega (
       arith,
       binomial (suc n) m,
@@ -85,7 +85,7 @@ left-cong b c n e = cong-add (cong-mul-left (n + 1) (e n (omega arith))) (below-
 
 -- the sums of powers in it
 left-powers : (m n : ℕ) → left (powers-below m) n ≡ m ^ suc n
-left-powers m n = left-is (powers-below m) n ∙ telescoped m n
+left-powers m n = left-is (powers-below m) n ∙ powers-recurrence m n
 
 -- the sum of m ones
 powers-none : (m : ℕ) → powers-below m 0 ≡ m * 1
