@@ -4,3 +4,4 @@ pub mod Sums
 pub mod Bernoulli
 pub mod Direct
 pub mod Doubling
+pub mod Kinds
