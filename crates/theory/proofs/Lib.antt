@@ -1,1 +1,4 @@
+pub mod Sums
+pub mod Congruence
+pub mod Powers
 pub mod Modular
