@@ -61,6 +61,13 @@ cong-mul {m} {a} {b} {c} {d} e f =
     mul-comm : (x y : ℕ) → x * y ≡ y * x
     mul-comm x y = omega arith
 
+-- a factor with an inverse goes
+pub cong-divide : {m : ℕ} (c a : ℕ) {x y : ℕ} → Cong m (c * a) 1 → Cong m (a * x) (a * y) → Cong m x y
+cong-divide {m} c a {x} {y} unit e = cong-trans (cong-sym (alone x)) (cong-trans (cong-mul-left c e) (alone y))
+  where
+    alone : (z : ℕ) → Cong m (c * (a * z)) z
+    alone z = eq-cong (omega arith) (cong-eq (cong-mul unit (cong-refl z)) (omega arith))
+
 pub cong-pow : {m a b : ℕ} (k : ℕ) → Cong m a b → Cong m (a ^ k) (b ^ k)
 cong-pow {m} {a} {b} zero e = cong-of-eq (pow-zero a ∙ sym (pow-zero b))
 cong-pow {m} {a} {b} (suc k) e = eq-cong (pow-suc a k) (cong-eq (cong-mul (cong-pow k e) e) (sym (pow-suc b k)))

@@ -2,3 +2,10 @@ pub mod Sums
 pub mod Congruence
 pub mod Powers
 pub mod Modular
+pub mod Binomials
+pub mod Counting
+pub mod Generators
+pub mod PowerSums
+pub mod HalfSystems
+pub mod Multipliers
+pub mod OrderOfTwo
