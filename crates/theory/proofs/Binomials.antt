@@ -37,32 +37,37 @@ binomial (suc n) x =
   where
     old : ℕ → ℕ
     old j = choose n j * x ^ j
+
     further : ℕ → ℕ
     further j = choose n (suc j) * x ^ suc j
+
     first
         : sum (suc (suc n)) (λ j. choose (suc n) j * x ^ j)
-            ≡ 1 * x ^ 0 + sum (suc n) (λ j. choose (suc n) (suc j) * x ^ suc j)
+        ≡ 1 * x ^ 0 + sum (suc n) (λ j. choose (suc n) (suc j) * x ^ suc j)
     first = sum-first (suc n) (λ j. choose (suc n) j * x ^ j)
+
     pascal
         : 1 * x ^ 0 + sum (suc n) (λ j. choose (suc n) (suc j) * x ^ suc j)
-            ≡ 1 * x ^ 0 + sum (suc n) (λ j. x * old j + further j)
+        ≡ 1 * x ^ 0 + sum (suc n) (λ j. x * old j + further j)
     pascal =
         ap
-          (λ (z : ℕ). 1 * x ^ 0 + z)
-          (sum-ext
-            (suc n)
-            (λ j. choose (suc n) (suc j) * x ^ suc j)
-            (λ j. x * old j + further j)
-            (λ j _. omega (arith, ap (λ (z : ℕ). choose n j * z) (pow-suc x j))))
+        (λ (z : ℕ). 1 * x ^ 0 + z)
+        (sum-ext
+        (suc n)
+        (λ j. choose (suc n) (suc j) * x ^ suc j)
+        (λ j. x * old j + further j)
+        (λ j _. omega (arith, ap (λ (z : ℕ). choose n j * z) (pow-suc x j))))
+
     join : 1 * x ^ 0 + sum (suc n) (λ j. x * old j + further j) ≡ sum (suc n) old * suc x
     join =
-        omega
-          ( arith
-          , sum-add (suc n) (λ j. x * old j) further
-          , sum-mul (suc n) x old
-          , sum-first (suc n) old
-          , sum-suc (suc n) old
-          , ap (λ (z : ℕ). z * x ^ suc n) (choose-above n (suc n) (lt-suc-self n)) )
+        omega (
+          arith,
+          sum-add (suc n) (λ j. x * old j) further,
+          sum-mul (suc n) x old,
+          sum-first (suc n) old,
+          sum-suc (suc n) old,
+          ap (λ (z : ℕ). z * x ^ suc n) (choose-above n (suc n) (lt-suc-self n)),
+        )
 
 -- (x + p·q)^(k + 1) is x^(k + 1) + (k + 1)·p·q·x^k modulo p²
 pub two-terms
@@ -71,11 +76,11 @@ two-terms p q x zero =
     cong-of-eq (omega (arith, pow-one (x + p * q), pow-one x, ap (λ (z : ℕ). p * (q * z)) (pow-zero x)))
 two-terms p q x (suc k) =
     eq-cong
-      (pow-suc (x + p * q) (suc k))
-      (cong-trans
-        (cong-mul (two-terms p q x k) (cong-refl (x + p * q)))
-        record
-          { up = 0
-          ; down = suc k * (q * x ^ k) * q
-          ; same = omega (arith, pow-suc x (suc k), ap (λ (z : ℕ). p * (q * z)) (pow-suc x k), ap (λ (z : ℕ). p * (k * (q * z))) (pow-suc x k))
-          })
+    (pow-suc (x + p * q) (suc k))
+    (cong-trans
+    (cong-mul (two-terms p q x k) (cong-refl (x + p * q)))
+    record {
+      up = 0;
+      down = suc k * (q * x ^ k) * q;
+      same = omega (arith, pow-suc x (suc k), ap (λ (z : ℕ). p * (q * z)) (pow-suc x k), ap (λ (z : ℕ). p * (k * (q * z))) (pow-suc x k));
+    })

@@ -2,10 +2,12 @@
 -- Main statements: Cong is an equivalence that sums, products and powers keep; mod-cong and cong-mod pass to
 -- remainders and back; cong-scale and cong-unscale pass from p to p² and back.
 use mathlib.Core.Path.{_≡_, refl, ap, sym, _∙_}
+use mathlib.Core.Logic.{_≢_}
 use Prim.Native.Nat.{ℕ, zero, suc, _+_, _*_, _/_, _%_, _^_, _<_}
-use native.Mathlib.Nat.{lt-suc-self, le-step, pow-zero, pow-suc, mod-add-div, mod-eq-of-lt, add-mul-mod-self-left, eq-of-mul-eq-mul-left, zero-mod}
+use native.Mathlib.Nat.{lt-suc-self, le-step, pow-zero, pow-suc, mod-add-div, mod-eq-of-lt, add-mul-mod-self-left, eq-of-mul-eq-mul-left, zero-mod, mul-zero, le-of-lt, ne-of-lt, zero-lt-suc}
 use native.Mathlib.Omega.{arith}
 use Rattle.theory.specs.Sums.{sum}
+use Rattle.theory.proofs.Powers.{one-pow, mul-pow}
 use Rattle.theory.proofs.Sums.{sum-zero, sum-suc}
 
 -- a and b differ by multiples of m
@@ -93,6 +95,22 @@ mod-cong {m} {a} {b} e = cong-trans (cong-sym (cong-rem m a)) (eq-cong e (cong-r
 -- congruent numbers below m are equal
 pub cong-under : {m a b : ℕ} → a < m → b < m → Cong m a b → a ≡ b
 cong-under p q e = sym (mod-eq-of-lt p) ∙ cong-mod e ∙ mod-eq-of-lt q
+
+-- what has an inverse: its powers have, products have, and it is not 0
+pub unit-pow : {m : ℕ} (c a i : ℕ) → Cong m (c * a) 1 → Cong m (c ^ i * a ^ i) 1
+unit-pow c a i unit = eq-cong (sym (mul-pow c a i)) (cong-eq (cong-pow i unit) (one-pow i))
+
+pub unit-mul : {m : ℕ} (c a d b : ℕ) → Cong m (c * a) 1 → Cong m (d * b) 1 → Cong m (c * d * (a * b)) 1
+unit-mul c a d b e f = eq-cong (omega arith) (cong-mul e f)
+
+pub unit-not-zero : {m : ℕ} (c a : ℕ) → 1 < m → Cong m (c * a) 1 → a % m ≢ 0
+unit-not-zero {m} c a big unit e =
+    ne-of-lt
+    (zero-lt-suc 0)
+    (cong-under
+    (le-of-lt big)
+    big
+    (cong-trans (cong-sym (cong-eq (cong-mul-left c (mod-cong (e ∙ sym (zero-mod m)))) (mul-zero c))) unit))
 
 -- from m to the multiples of m, and back
 pub cong-scale : {m a b : ℕ} (c : ℕ) → Cong m a b → Cong (c * m) (c * a) (c * b)

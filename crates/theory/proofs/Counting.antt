@@ -63,63 +63,68 @@ hits-suc n s y = sum-suc n (λ i. same (s i) y)
 hits-none : (n : ℕ) (s : ℕ → ℕ) (y : ℕ) → ((i : ℕ) → i < n → s i ≢ y) → hits n s y ≡ 0
 hits-none zero s y d = hits-zero s y
 hits-none (suc n) s y d =
-    omega
-      ( arith
-      , hits-suc n s y
-      , hits-none n s y (λ i h. d i (le-step h))
-      , same-apart (s n) y (d n (lt-suc-self n)) )
+    omega (
+      arith,
+      hits-suc n s y,
+      hits-none n s y (λ i h. d i (le-step h)),
+      same-apart (s n) y (d n (lt-suc-self n)),
+    )
 
 hits-one : (n : ℕ) (s : ℕ → ℕ) (y i : ℕ) → i < n → s i ≡ y → 1 ≤ hits n s y
 hits-one zero s y i h e = omega arith
-hits-one (suc n) s y i h e = elim (last-or-below h) 
-      [ inl d ↦ omega (arith, hits-suc n s y, same-eq (s n) y (ap s (sym d) ∙ e))
-      | inr u ↦ omega (arith, hits-suc n s y, hits-one n s y i u e)
-      ]
+hits-one (suc n) s y i h e = elim (last-or-below h) [
+  | inl d ↦ omega (arith, hits-suc n s y, same-eq (s n) y (ap s (sym d) ∙ e))
+  | inr u ↦ omega (arith, hits-suc n s y, hits-one n s y i u e)
+]
 
 hits-two : (n : ℕ) (s : ℕ → ℕ) (y i j : ℕ) → i < j → j < n → s i ≡ y → s j ≡ y → 2 ≤ hits n s y
 hits-two zero s y i j h u d e = omega arith
-hits-two (suc n) s y i j h u d e = elim (last-or-below u) 
-      [ inl f ↦ omega
-          ( arith
-          , hits-suc n s y
-          , same-eq (s n) y (ap s (sym f) ∙ e)
-          , hits-one n s y i (subst (λ (z : ℕ). i < z) f h) d )
-      | inr v ↦ omega (arith, hits-suc n s y, hits-two n s y i j h v d e)
-      ]
+hits-two (suc n) s y i j h u d e = elim (last-or-below u) [
+  | inl f ↦ omega (
+    arith,
+    hits-suc n s y,
+    same-eq (s n) y (ap s (sym f) ∙ e),
+    hits-one n s y i (subst (λ (z : ℕ). i < z) f h) d,
+  )
+  | inr v ↦ omega (arith, hits-suc n s y, hits-two n s y i j h v d e)
+]
 
 hits-at-most-one : (n : ℕ) (s : ℕ → ℕ) (y : ℕ) → OneToOne n s → hits n s y ≤ 1
 hits-at-most-one zero s y inj = omega (arith, hits-zero s y)
 hits-at-most-one (suc n) s y inj =
-    elim (ℕ-discrete (s n) y)
-      [ yes e ↦ omega
-          ( arith
-          , hits-suc n s y
-          , same-eq (s n) y e
-          , hits-none
-              n
-              s
-              y
-              (λ i h d.
-                lt-irrefl n (subst (λ (z : ℕ). z < n) (inj i n (le-step h) (lt-suc-self n) (d ∙ sym e)) h)) )
-      | no d ↦ omega
-          ( arith
-          , hits-suc n s y
-          , same-apart (s n) y d
-          , hits-at-most-one n s y (λ i j h u e. inj i j (le-step h) (le-step u) e) )
-      ]
+    elim (ℕ-discrete (s n) y) [
+      | yes e ↦ omega (
+        arith,
+        hits-suc n s y,
+        same-eq (s n) y e,
+        hits-none
+            n
+            s
+            y
+            (λ i h d.
+            lt-irrefl n (subst (λ (z : ℕ). z < n) (inj i n (le-step h) (lt-suc-self n) (d ∙ sym e)) h)),
+      )
+      | no d ↦ omega (
+        arith,
+        hits-suc n s y,
+        same-apart (s n) y d,
+        hits-at-most-one n s y (λ i j h u e. inj i j (le-step h) (le-step u) e),
+      )
+    ]
 
 -- of the numbers below m one meets a
 meets-once : (m a : ℕ) (f : ℕ → ℕ) → a < m → sum m (λ y. same a y * f y) ≡ f a
 meets-once zero a f h = omega arith
 meets-once (suc m) a f h =
     sum-suc m (λ y. same a y * f y)
-    ∙ (elim (last-or-below h)
-        [ inl e ↦ omega (arith, missed e, ap (λ (z : ℕ). z * f m) (same-eq a m e), ap f e)
-        | inr u ↦ omega (arith, meets-once m a f u, vanish m (λ d. lt-irrefl m (subst (λ (z : ℕ). z < m) d u)))
-        ])
+    ∙ (elim (last-or-below h) [
+      | inl e ↦ omega (arith, missed e, ap (λ (z : ℕ). z * f m) (same-eq a m e), ap f e)
+      | inr u ↦ omega (arith, meets-once m a f u, vanish m (λ d. lt-irrefl m (subst (λ (z : ℕ). z < m) d u)))
+    ])
   where
     vanish : (y : ℕ) → a ≢ y → same a y * f y ≡ 0
     vanish y d = ap (λ (z : ℕ). z * f y) (same-apart a y d) ∙ zero-mul (f y)
+
     missed : a ≡ m → sum m (λ y. same a y * f y) ≡ 0
     missed e = sum-nought m (λ y. same a y * f y) (λ y u. vanish y (λ d. lt-irrefl m (subst (λ (z : ℕ). z < m) (sym d ∙ e) u)))
 
@@ -131,16 +136,16 @@ count-sum
 count-sum zero m s f h =
     sum-zero (λ i. f (s i))
     ∙ sym
-        (sum-nought m (λ y. hits 0 s y * f y) (λ y _. ap (λ (z : ℕ). z * f y) (hits-zero s y) ∙ zero-mul (f y)))
+    (sum-nought m (λ y. hits 0 s y * f y) (λ y _. ap (λ (z : ℕ). z * f y) (hits-zero s y) ∙ zero-mul (f y)))
 count-sum (suc n) m s f h =
     sum-suc n (λ i. f (s i))
     ∙ ap₂ _+_ (count-sum n m s f (λ i u. h i (le-step u))) (sym (meets-once m (s n) f (h n (lt-suc-self n))))
     ∙ sym (sum-add m (λ y. hits n s y * f y) (λ y. same (s n) y * f y))
     ∙ sum-ext
-        m
-        (λ y. hits n s y * f y + same (s n) y * f y)
-        (λ y. hits (suc n) s y * f y)
-        (λ y _. omega (arith, ap (λ (z : ℕ). z * f y) (hits-suc n s y)))
+    m
+    (λ y. hits n s y * f y + same (s n) y * f y)
+    (λ y. hits (suc n) s y * f y)
+    (λ y _. omega (arith, ap (λ (z : ℕ). z * f y) (hits-suc n s y)))
 
 hits-total : (m : ℕ) (s : ℕ → ℕ) → Within m s → sum m (hits m s) ≡ sum m (λ _. 1)
 hits-total m s h =
@@ -154,35 +159,36 @@ onto-one-to-one m s within onto i j hi hj e = omega (arith, apart i j hi hj e, a
     once : (y : ℕ) → y < m → hits m s y ≡ 1
     once y u =
         sym
-          (sum-squeeze
-            m
-            (λ _. 1)
-            (hits m s)
-            (λ z v. hits-one m s z (onto z v .0) (onto z v .1) (onto z v .2))
-            (le-of-eq (hits-total m s within))
-            y
-            u)
+        (sum-squeeze
+        m
+        (λ _. 1)
+        (hits m s)
+        (λ z v. hits-one m s z (onto z v .0) (onto z v .1) (onto z v .2))
+        (le-of-eq (hits-total m s within))
+        y
+        u)
+
     apart : (a b : ℕ) → a < m → b < m → s a ≡ s b → ¬ (a < b)
     apart a b ha hb d h = omega (arith, once (s b) (within b hb), hits-two m s (s b) a b h hb d refl)
 
 one-to-one-once : (m : ℕ) (s : ℕ → ℕ) → Within m s → OneToOne m s → (y : ℕ) → y < m → hits m s y ≡ 1
 one-to-one-once m s within inj =
     sum-squeeze
-      m
-      (hits m s)
-      (λ _. 1)
-      (λ y _. hits-at-most-one m s y inj)
-      (le-of-eq (sym (hits-total m s within)))
+    m
+    (hits m s)
+    (λ _. 1)
+    (λ y _. hits-at-most-one m s y inj)
+    (le-of-eq (sym (hits-total m s within)))
 
 pub one-to-one-sum
     : (m : ℕ) (s f : ℕ → ℕ) → Within m s → OneToOne m s → sum m (λ i. f (s i)) ≡ sum m f
 one-to-one-sum m s f within inj =
     count-sum m m s f within
     ∙ sum-ext
-        m
-        (λ y. hits m s y * f y)
-        f
-        (λ y u. ap (λ (z : ℕ). z * f y) (one-to-one-once m s within inj y u) ∙ one-mul (f y))
+    m
+    (λ y. hits m s y * f y)
+    f
+    (λ y u. ap (λ (z : ℕ). z * f y) (one-to-one-once m s within inj y u) ∙ one-mul (f y))
 
 -- no number below m is missed
 pub one-to-one-meets

@@ -20,7 +20,7 @@ pub record HalfSystem (p h : ℕ) (x : ℕ → ℕ) : Type 0 where
 pub square-negative : (p a b : ℕ) → a + b ≡ p → Cong p (b * b) (a * a)
 square-negative p a b e =
     record
-      { up = a; down = b; same = omega (arith, ap (λ (z : ℕ). a * z) e, ap (λ (z : ℕ). b * z) e) }
+    { up = a; down = b; same = omega (arith, ap (λ (z : ℕ). a * z) e, ap (λ (z : ℕ). b * z) e) }
 
 -- 0, the points, and their negatives
 side : (p h : ℕ) (x : ℕ → ℕ) (i : ℕ) → Dec (i < h) → ℕ
@@ -62,21 +62,21 @@ module _ (p h : ℕ) (odd : p ≡ suc (h + h)) (x : ℕ → ℕ) (half : HalfSys
       at (yes v) =
           let e = whole-low p h x i v in
           record
-            { k = i; low = v; square = cong-of-eq (ap₂ _*_ e e); side-of = inl (refl, e) }
+          { k = i; low = v; square = cong-of-eq (ap₂ _*_ e e); side-of = inl (refl, e) }
       at (no d) =
           let is : i ≡ h + (i - h) = omega arith in
           let v : i - h < h = omega arith in
           let sum-is : whole p h x (suc i) + x (i - h) ≡ p =
-              ap (λ (z : ℕ). whole p h x (suc z) + x (i - h)) is
-              ∙ ap (λ (z : ℕ). z + x (i - h)) (whole-high p h x (i - h))
-              ∙ omega (arith, half .under (i - h) v)
+          ap (λ (z : ℕ). whole p h x (suc z) + x (i - h)) is
+          ∙ ap (λ (z : ℕ). z + x (i - h)) (whole-high p h x (i - h))
+          ∙ omega (arith, half .under (i - h) v)
           in
-          record
-            { k = i - h
-            ; low = v
-            ; square = square-negative p (x (i - h)) (whole p h x (suc i)) (omega (arith, sum-is))
-            ; side-of = inr (is, sum-is)
-            }
+          record {
+            k = i - h;
+            low = v;
+            square = square-negative p (x (i - h)) (whole p h x (suc i)) (omega (arith, sum-is));
+            side-of = inr (is, sum-is);
+          }
 
   between : (i : ℕ) → suc i < p → (0 < whole p h x (suc i)) × (whole p h x (suc i) < p)
   between i u =
@@ -99,19 +99,20 @@ module _ (p h : ℕ) (odd : p ≡ suc (h + h)) (x : ℕ → ℕ) (half : HalfSys
     where
       together : (q : Place i) (r : Place j) → i ≡ j
       together q r =
-          elim (q .side-of)
-            [ inl d ↦ elim (r .side-of) [ inl f ↦ omega (arith, d, f, k-same) | inr f ↦ omega (arith, d, f, e, x-same) ]
+          elim (q .side-of) [
+            | inl d ↦ elim (r .side-of) [ inl f ↦ omega (arith, d, f, k-same) | inr f ↦ omega (arith, d, f, e, x-same) ]
             | inr d ↦ elim (r .side-of) [ inl f ↦ omega (arith, d, f, e, x-same) | inr f ↦ omega (arith, d, f, k-same) ]
-            ]
+          ]
         where
           k-same : q .k ≡ r .k
           k-same =
               half .apart
-                (q .k)
-                (r .k)
-                (q .low)
-                (r .low)
-                (cong-trans (cong-sym (q .square)) (eq-cong (ap₂ _*_ e e) (r .square)))
+              (q .k)
+              (r .k)
+              (q .low)
+              (r .low)
+              (cong-trans (cong-sym (q .square)) (eq-cong (ap₂ _*_ e e) (r .square)))
+
           x-same : x (q .k) ≡ x (r .k)
           x-same = ap x k-same
 
@@ -123,13 +124,13 @@ module _ (p h : ℕ) (odd : p ≡ suc (h + h)) (x : ℕ → ℕ) (half : HalfSys
       ∙ ap (λ (z : ℕ). sum z (λ i. f (whole p h x i))) odd
       ∙ sum-first (h + h) (λ i. f (whole p h x i))
       ∙ ap
-          (λ (z : ℕ). f 0 + z)
-          (sum-split h h (λ i. f (whole p h x (suc i)))
-          ∙ ap₂
-              _+_
-              (sum-ext h (λ i. f (whole p h x (suc i))) (λ i. f (x i)) (λ i u. ap f (whole-low p h x i u)))
-              (sum-ext
-                h
-                (λ i. f (whole p h x (suc (h + i))))
-                (λ i. f (p - x i))
-                (λ i _. ap f (whole-high p h x i))))
+      (λ (z : ℕ). f 0 + z)
+      (sum-split h h (λ i. f (whole p h x (suc i)))
+      ∙ ap₂
+      _+_
+      (sum-ext h (λ i. f (whole p h x (suc i))) (λ i. f (x i)) (λ i u. ap f (whole-low p h x i u)))
+      (sum-ext
+      h
+      (λ i. f (whole p h x (suc (h + i))))
+      (λ i. f (p - x i))
+      (λ i _. ap f (whole-high p h x i))))

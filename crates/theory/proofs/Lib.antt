@@ -9,3 +9,6 @@ pub mod PowerSums
 pub mod HalfSystems
 pub mod Multipliers
 pub mod OrderOfTwo
+pub mod DirectSum
+pub mod DoublingSum
+pub mod Theorems

@@ -27,12 +27,12 @@ pow-double a t = pow-add a t t ∙ sym (mul-pow a a t)
 odd-negative : (p a b t : ℕ) → a + b ≡ p → Cong p (b ^ suc (t + t) + a ^ suc (t + t)) 0
 odd-negative p a b t e =
     cong-trans
-      (cong-add
-        (eq-cong
-          (pow-suc b (t + t) ∙ ap (λ (z : ℕ). z * b) (pow-double b t))
-          (cong-mul (cong-pow t (square-negative p a b e)) (cong-refl b)))
-        (cong-of-eq (pow-suc a (t + t) ∙ ap (λ (z : ℕ). z * a) (pow-double a t))))
-      (eq-cong (omega (arith, ap (λ (z : ℕ). (a * a) ^ t * z) e)) (cong-zero ((a * a) ^ t)))
+    (cong-add
+    (eq-cong
+    (pow-suc b (t + t) ∙ ap (λ (z : ℕ). z * b) (pow-double b t))
+    (cong-mul (cong-pow t (square-negative p a b e)) (cong-refl b)))
+    (cong-of-eq (pow-suc a (t + t) ∙ ap (λ (z : ℕ). z * a) (pow-double a t))))
+    (eq-cong (omega (arith, ap (λ (z : ℕ). (a * a) ^ t * z) e)) (cong-zero ((a * a) ^ t)))
 
 -- a point and its negative: from e + 2qs ≡ (q + q′)s and s + s′ ≡ 0 to e + (qs + q′s′) ≡ 0
 pair-vanishes
@@ -42,8 +42,8 @@ pair-vanishes
     → Cong p (e + (q * s + q′ * s′)) 0
 pair-vanishes p e q q′ s s′ term odd =
     cong-trans
-      (eq-cong (omega arith) (cong-add half (cong-refl (q′ * s′))))
-      (eq-cong (omega arith) (cong-eq (cong-mul-left q′ odd) (mul-zero q′)))
+    (eq-cong (omega arith) (cong-add half (cong-refl (q′ * s′))))
+    (eq-cong (omega arith) (cong-eq (cong-mul-left q′ odd) (mul-zero q′)))
   where
     half : Cong p (e + q * s) (q′ * s)
     half = cong-cancel (q * s) (eq-cong (omega arith) (cong-eq term (omega arith)))
@@ -58,23 +58,30 @@ opposite p c a b e bpos ne cpos = record { quotients = omega (arith, quotient, s
   where
     ppos : 0 < p
     ppos = omega arith
+
     under : c * a % p < p
     under = mod-lt (c * a) ppos
+
     small : c * a / p < c
     small = div-lt-iff-lt-mul ppos .1 (mul-lt-mul-of-pos-left (omega arith) cpos)
+
     rest : ℕ
     rest = c - 1 - c * a / p
+
     digits : c * b ≡ rest * p + (p - c * a % p)
     digits =
         let whole : rest + c * a / p + 1 ≡ c = omega (arith, small) in
-        omega
-          ( arith
-          , under
-          , mod-add-div (c * a) p
-          , ap (λ (z : ℕ). c * z) e
-          , ap (λ (z : ℕ). z * p) whole )
+        omega (
+          arith,
+          under,
+          mod-add-div (c * a) p,
+          ap (λ (z : ℕ). c * z) e,
+          ap (λ (z : ℕ). z * p) whole,
+        )
+
     quotient : c * b / p ≡ rest
     quotient = ap (λ (z : ℕ). z / p) digits ∙ digits-div rest (omega (arith, pos-of-ne-zero ne))
+
     residue : c * b % p ≡ p - c * a % p
     residue = ap (λ (z : ℕ). z % p) digits ∙ digits-mod rest (omega (arith, pos-of-ne-zero ne))
 
@@ -84,19 +91,20 @@ module _ (p g : ℕ) (big : 1 < p) (sound : Sound p g) (c : ℕ) (cpos : 0 < c) 
 
   times-not-zero : (a : ℕ) → 0 < a → a < p → c * a % p ≢ 0
   times-not-zero a apos au e =
-      omega
-        ( arith
-        , cong-under
+      omega (
+        arith,
+        cong-under
             au
             (omega arith)
             (sound-cancel
-              p
-              g
-              big
-              sound
-              c
-              not-zero
-              (cong-eq (mod-cong (e ∙ sym (zero-mod p))) (sym (mul-zero c)))) )
+            p
+            g
+            big
+            sound
+            c
+            not-zero
+            (cong-eq (mod-cong (e ∙ sym (zero-mod p))) (sym (mul-zero c)))),
+      )
 
   times-within : Within p (λ y. c * y % p)
   times-within y _ = mod-lt (c * y) (omega arith)
@@ -112,50 +120,54 @@ module _ (p g : ℕ) (big : 1 < p) (sound : Sound p g) (c : ℕ) (cpos : 0 < c) 
         → Cong p (c ^ suc j * b (suc j)) (b (suc j) + suc j * sum p (λ y. c * y / p * (c * y % p) ^ j))
     multiplied j u =
         cong-unscale
-          p
-          (omega arith)
-          (eq-cong
-            (omega arith)
-            (cong-trans
-              (cong-mul-left (c ^ suc j) sums)
-              (cong-trans
-                squared
-                (cong-eq (cong-add (cong-sym sums) (cong-refl (p * (suc j * quotients)))) (omega arith)))))
+        p
+        (omega arith)
+        (eq-cong
+        (omega arith)
+        (cong-trans
+        (cong-mul-left (c ^ suc j) sums)
+        (cong-trans
+        squared
+        (cong-eq (cong-add (cong-sym sums) (cong-refl (p * (suc j * quotients)))) (omega arith)))))
       where
         quotients : ℕ
         quotients = sum p (λ y. c * y / p * (c * y % p) ^ j)
+
         sums : Cong (p * p) (p * b (suc j)) (powers-below p (suc j))
         sums = power-sums p g big sound b r (suc j) u
+
         outer : c ^ suc j * powers-below p (suc j) ≡ sum p (λ y. (c * y) ^ suc j)
         outer =
             ap (λ (z : ℕ). c ^ suc j * z) (powers-below-is p (suc j))
             ∙ sym (sum-mul p (c ^ suc j) (λ y. y ^ suc j))
             ∙ sum-ext p (λ y. c ^ suc j * y ^ suc j) (λ y. (c * y) ^ suc j) (λ y _. sym (mul-pow c y (suc j)))
+
         inner
             : sum p (λ y. (c * y % p) ^ suc j + p * (suc j * (c * y / p * (c * y % p) ^ j)))
-                ≡ powers-below p (suc j) + p * (suc j * quotients)
+            ≡ powers-below p (suc j) + p * (suc j * quotients)
         inner =
             sum-add p (λ y. (c * y % p) ^ suc j) (λ y. p * (suc j * (c * y / p * (c * y % p) ^ j)))
             ∙ ap₂
-                _+_
-                (one-to-one-sum p (λ y. c * y % p) (λ z. z ^ suc j) times-within times-one-to-one
-                ∙ sym (powers-below-is p (suc j)))
-                (sum-mul p p (λ y. suc j * (c * y / p * (c * y % p) ^ j))
-                ∙ ap (λ (z : ℕ). p * z) (sum-mul p (suc j) (λ y. c * y / p * (c * y % p) ^ j)))
+            _+_
+            (one-to-one-sum p (λ y. c * y % p) (λ z. z ^ suc j) times-within times-one-to-one
+            ∙ sym (powers-below-is p (suc j)))
+            (sum-mul p p (λ y. suc j * (c * y / p * (c * y % p) ^ j))
+            ∙ ap (λ (z : ℕ). p * z) (sum-mul p (suc j) (λ y. c * y / p * (c * y % p) ^ j)))
+
         squared : Cong (p * p) (c ^ suc j * powers-below p (suc j)) (powers-below p (suc j) + p * (suc j * quotients))
         squared =
             eq-cong
-              outer
-              (cong-eq
-                (sum-cong
-                  p
-                  (λ y. (c * y) ^ suc j)
-                  (λ y. (c * y % p) ^ suc j + p * (suc j * (c * y / p * (c * y % p) ^ j)))
-                  (λ y _.
-                    eq-cong
-                      (ap (λ (z : ℕ). z ^ suc j) (sym (mod-add-div (c * y) p)))
-                      (two-terms p (c * y / p) (c * y % p) j)))
-                inner)
+            outer
+            (cong-eq
+            (sum-cong
+            p
+            (λ y. (c * y) ^ suc j)
+            (λ y. (c * y % p) ^ suc j + p * (suc j * (c * y / p * (c * y % p) ^ j)))
+            (λ y _.
+            eq-cong
+            (ap (λ (z : ℕ). z ^ suc j) (sym (mod-add-div (c * y) p)))
+            (two-terms p (c * y / p) (c * y % p) j)))
+            inner)
 
     module _ (h : ℕ) (odd : p ≡ suc (h + h)) (x : ℕ → ℕ) (half : HalfSystem p h x) (t : ℕ) (e : ℕ → ℕ) where
       -- what is asked of the term at a point: e is (c − 1 − 2q)·s^(k − 1), with q and s the quotient and the residue of
@@ -172,49 +184,50 @@ module _ (p g : ℕ) (big : 1 < p) (sound : Sound p g) (c : ℕ) (cpos : 0 < c) 
       unfolding summand
       vanish i u term =
           pair-vanishes
-            p
-            (e i)
-            (c * x i / p)
-            (c * (p - x i) / p)
-            ((c * x i % p) ^ suc (t + t))
-            ((c * (p - x i) % p) ^ suc (t + t))
-            (cong-eq term (ap (λ (z : ℕ). z * (c * x i % p) ^ suc (t + t)) (omega (arith, both .quotients))))
-            (odd-negative p (c * x i % p) (c * (p - x i) % p) t (both .residues))
+          p
+          (e i)
+          (c * x i / p)
+          (c * (p - x i) / p)
+          ((c * x i % p) ^ suc (t + t))
+          ((c * (p - x i) % p) ^ suc (t + t))
+          (cong-eq term (ap (λ (z : ℕ). z * (c * x i % p) ^ suc (t + t)) (omega (arith, both .quotients))))
+          (odd-negative p (c * x i % p) (c * (p - x i) % p) t (both .residues))
         where
           both : Opposite p c (x i) (p - x i)
           both =
               opposite
-                p
-                c
-                (x i)
-                (p - x i)
-                (omega (arith, half .under i u))
-                (omega (arith, half .under i u))
-                (times-not-zero (x i) (half .positive i u) (half .under i u))
-                cpos
+              p
+              c
+              (x i)
+              (p - x i)
+              (omega (arith, half .under i u))
+              (omega (arith, half .under i u))
+              (times-not-zero (x i) (half .positive i u) (half .under i u))
+              cpos
 
       all-vanish : ((i : ℕ) → i < h → Term i) → Cong p (sum h e + sum p summand) 0
       unfolding summand
       all-vanish terms =
           eq-cong
-            (ap (λ (z : ℕ). sum h e + z) (half-sum p h odd x half summand ∙ start)
-            ∙ sym
-                (sum-add h e (λ i. summand (x i) + summand (p - x i))
-                ∙ ap (λ (z : ℕ). sum h e + z) (sum-add h (λ i. summand (x i)) (λ i. summand (p - x i)))))
-            (cong-eq
-              (sum-cong h (λ i. e i + (summand (x i) + summand (p - x i))) (λ _. 0) (λ i u. vanish i u (terms i u)))
-              (sum-nought h (λ _. 0) (λ _ _. refl)))
+          (ap (λ (z : ℕ). sum h e + z) (half-sum p h odd x half summand ∙ start)
+          ∙ sym
+          (sum-add h e (λ i. summand (x i) + summand (p - x i))
+          ∙ ap (λ (z : ℕ). sum h e + z) (sum-add h (λ i. summand (x i)) (λ i. summand (p - x i)))))
+          (cong-eq
+          (sum-cong h (λ i. e i + (summand (x i) + summand (p - x i))) (λ _. 0) (λ i u. vanish i u (terms i u)))
+          (sum-nought h (λ _. 0) (λ _ _. refl)))
         where
           start
               : summand 0 + (sum h (λ i. summand (x i)) + sum h (λ i. summand (p - x i)))
-                  ≡ sum h (λ i. summand (x i)) + sum h (λ i. summand (p - x i))
+              ≡ sum h (λ i. summand (x i)) + sum h (λ i. summand (p - x i))
           start =
-              omega
-                ( arith
-                , ap
+              omega (
+                arith,
+                ap
                     (λ (z : ℕ). z * (c * 0 % p) ^ suc (t + t))
                     (ap (λ (z : ℕ). z / p) (mul-zero c) ∙ zero-div p)
-                  ∙ zero-mul ((c * 0 % p) ^ suc (t + t)) )
+                    ∙ zero-mul ((c * 0 % p) ^ suc (t + t)),
+              )
 
       -- c^k·b_k + k·E is b_k, for E the sum of the terms
       pub half-system-sum
@@ -224,11 +237,11 @@ module _ (p g : ℕ) (big : 1 < p) (sound : Sound p g) (c : ℕ) (cpos : 0 < c) 
       unfolding summand
       half-system-sum u terms =
           cong-trans
-            (cong-add (multiplied (suc (t + t)) u) (cong-refl (suc (suc (t + t)) * sum h e)))
-            (eq-cong
-              (omega arith)
-              (cong-eq
-                (cong-add
-                  (cong-refl (b (suc (suc (t + t)))))
-                  (cong-mul-left (suc (suc (t + t))) (all-vanish terms)))
-                (omega arith)))
+          (cong-add (multiplied (suc (t + t)) u) (cong-refl (suc (suc (t + t)) * sum h e)))
+          (eq-cong
+          (omega arith)
+          (cong-eq
+          (cong-add
+          (cong-refl (b (suc (suc (t + t)))))
+          (cong-mul-left (suc (suc (t + t))) (all-vanish terms)))
+          (omega arith)))

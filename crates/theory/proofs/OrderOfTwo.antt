@@ -12,8 +12,8 @@ use native.Mathlib.Omega.{arith}
 use lib.Pow.{pow-add}
 use lib.Dec.{eqb, eqb→eq, eqb-refl, T}
 use Rattle.theory.specs.Doubling.{Order, first-one, order, row-length}
-use Rattle.theory.proofs.Powers.{one-pow, mul-pow, pow-mul}
-use Rattle.theory.proofs.Congruence.{Cong, cong-refl, cong-sym, cong-trans, cong-of-eq, eq-cong, cong-eq, cong-mul, cong-mul-left, cong-pow, cong-mod, mod-cong, cong-under, cong-divide}
+use Rattle.theory.proofs.Powers.{one-pow, pow-mul}
+use Rattle.theory.proofs.Congruence.{Cong, cong-refl, cong-sym, cong-trans, cong-of-eq, eq-cong, cong-eq, cong-mul, cong-mul-left, cong-pow, cong-mod, mod-cong, cong-divide, unit-pow, unit-not-zero}
 use Rattle.theory.proofs.Counting.{OneToOne, one-to-one-meets}
 
 -- a power of 2 that leaves 1, as a congruence
@@ -57,20 +57,20 @@ first-one-is p (suc steps) n = at (first-one-is p steps (suc n)) (eqb (2 ^ n % p
         → First p n (n + suc steps) (elim t [ true ↦ n | false ↦ first-one p steps (suc n) ]) ⊎ None p n (n + suc steps)
     at _ true e =
         inl
-          record
-            { from = omega arith
-            ; below = omega arith
-            ; one = passed (2 ^ n % p) 1 e
-            ; none-before = λ m a b _. omega arith
-            }
+        record {
+          from = omega arith;
+          below = omega arith;
+          one = passed (2 ^ n % p) 1 e;
+          none-before = λ m a b _. omega arith;
+        }
     at (inl f) false e =
         inl
-          record
-            { from = omega (arith, f .from)
-            ; below = omega (arith, f .below)
-            ; one = f .one
-            ; none-before = none-more p n (first-one p steps (suc n)) (failed (2 ^ n % p) 1 e) (f .none-before)
-            }
+        record {
+          from = omega (arith, f .from);
+          below = omega (arith, f .below);
+          one = f .one;
+          none-before = none-more p n (first-one p steps (suc n)) (failed (2 ^ n % p) 1 e) (f .none-before);
+        }
     at (inr none) false e =
         inr (none-more p n (n + suc steps) (failed (2 ^ n % p) 1 e) (λ m a b. none m a (omega arith)))
 
@@ -92,72 +92,61 @@ module _ (p n : ℕ) (big : 1 < p) (is : Order p n) where
       rest : Cong p (2 ^ e) (2 ^ (e % n))
       rest =
           eq-cong
-            (ap (λ (z : ℕ). 2 ^ z) (sym (mod-add-div e n)) ∙ pow-add 2 (e % n) (n * (e / n)))
-            (cong-eq (cong-mul-left (2 ^ (e % n)) (order-multiple (e / n))) (mul-one (2 ^ (e % n))))
+          (ap (λ (z : ℕ). 2 ^ z) (sym (mod-add-div e n)) ∙ pow-add 2 (e % n) (n * (e / n)))
+          (cong-eq (cong-mul-left (2 ^ (e % n)) (order-multiple (e / n))) (mul-one (2 ^ (e % n))))
+
       early : 0 < e % n → ⊥
       early u =
           is .least
-            (e % n)
-            u
-            (mod-lt e (is .positive))
-            (cong-leaves (e % n) big (cong-trans (cong-sym rest) one))
+          (e % n)
+          u
+          (mod-lt e (is .positive))
+          (cong-leaves (e % n) big (cong-trans (cong-sym rest) one))
 
 -- an odd modulus
 module _ (p h : ℕ) (odd : p ≡ suc (h + h)) (some : 0 < h) where
+  big : 1 < p
+  big = omega arith
+
   -- h + 1 is the half of 1
-  half-of-one : (i : ℕ) → Cong p (suc h ^ i * 2 ^ i) 1
-  half-of-one i =
-      eq-cong
-        (sym (mul-pow (suc h) 2 i))
-        (cong-eq (cong-pow i (record { up = 0; down = 1; same = omega arith })) (one-pow i))
+  pub half-of-one : (i : ℕ) → Cong p (suc h ^ i * 2 ^ i) 1
+  half-of-one i = unit-pow (suc h) 2 i (record { up = 0; down = 1; same = omega arith })
 
   pub two-cancel : (i : ℕ) {x y : ℕ} → Cong p (2 ^ i * x) (2 ^ i * y) → Cong p x y
   two-cancel i e = cong-divide (suc h ^ i) (2 ^ i) (half-of-one i) e
 
   pub two-not-zero : (i : ℕ) → 2 ^ i % p ≢ 0
-  two-not-zero i e =
-      omega
-        ( arith
-        , cong-under
-            {m = p}
-            {a = 0}
-            {b = 1}
-            (omega arith)
-            (omega arith)
-            (cong-trans
-              (cong-sym
-                (cong-eq (cong-mul-left (suc h ^ i) (mod-cong (e ∙ sym (zero-mod p)))) (mul-zero (suc h ^ i))))
-              (half-of-one i)) )
+  two-not-zero i = unit-not-zero (suc h ^ i) (2 ^ i) big (half-of-one i)
 
   -- equal powers of 2 have a power between them that leaves 1
-  between : (i j : ℕ) → i < j → Cong p (2 ^ i) (2 ^ j) → Cong p (2 ^ (j - i)) 1
+  pub between : (i j : ℕ) → i < j → Cong p (2 ^ i) (2 ^ j) → Cong p (2 ^ (j - i)) 1
   between i j u e =
       cong-sym
-        (two-cancel
-          i
-          (eq-cong
-            (mul-one (2 ^ i))
-            (cong-eq e (ap (λ (z : ℕ). 2 ^ z) (omega arith) ∙ pow-add 2 i (j - i)))))
+      (two-cancel
+      i
+      (eq-cong
+      (mul-one (2 ^ i))
+      (cong-eq e (ap (λ (z : ℕ). 2 ^ z) (omega arith) ∙ pow-add 2 i (j - i)))))
 
   pub order-is : Order p (order p)
   unfolding order
   order-is =
-      elim (first-one-is p (p - 1) 1)
-        [ inl f ↦ record
-            { positive = f .from
-            ; leaves-one = f .one
-            ; least = λ m a b. f .none-before m a b
-            }
+      elim (first-one-is p (p - 1) 1) [
+        | inl f ↦ record {
+          positive = f .from;
+          leaves-one = f .one;
+          least = λ m a b. f .none-before m a b;
+        }
         | inr none ↦ absurd
             (one-to-one-meets
-              p
-              (λ i. 2 ^ i % p)
-              (λ i _. mod-lt (2 ^ i) (omega arith))
-              (different none)
-              0
-              (omega arith)
-              (λ i _. two-not-zero i))
-        ]
+            p
+            (λ i. 2 ^ i % p)
+            (λ i _. mod-lt (2 ^ i) (omega arith))
+            (different none)
+            0
+            (omega arith)
+            (λ i _. two-not-zero i))
+      ]
     where
       different : None p 1 (1 + (p - 1)) → OneToOne p (λ i. 2 ^ i % p)
       different none i j hi hj e = omega (arith, apart i j hj e, apart j i hi (sym e))
@@ -165,10 +154,10 @@ module _ (p h : ℕ) (odd : p ≡ suc (h + h)) (some : 0 < h) where
           apart : (a b : ℕ) → b < p → 2 ^ a % p ≡ 2 ^ b % p → ¬ (a < b)
           apart a b hb d u =
               none
-                (b - a)
-                (omega arith)
-                (omega arith)
-                (cong-leaves (b - a) (omega arith) (between a b u (mod-cong d)))
+              (b - a)
+              (omega arith)
+              (omega arith)
+              (cong-leaves (b - a) (omega arith) (between a b u (mod-cong d)))
 
   -- the length of a row: half the order, or the whole of an odd one
   row-length-is
@@ -180,12 +169,9 @@ module _ (p h : ℕ) (odd : p ≡ suc (h + h)) (some : 0 < h) where
           : (t : Bool)
           → eqb (order p % 2) 0 ≡ t
           → (order p ≡ cond t (order p / 2) (order p) + cond t (order p / 2) (order p))
-              ⊎ ((order p ≡ cond t (order p / 2) (order p)) × (order p % 2 ≡ 1))
+          ⊎ ((order p ≡ cond t (order p / 2) (order p)) × (order p % 2 ≡ 1))
       at true e = inl (omega (arith, passed (order p % 2) 0 e))
       at false e = inr (refl, omega (arith, failed (order p % 2) 0 e))
-
-  big : 1 < p
-  big = omega arith
 
   pub row-length-positive : 0 < row-length p
   row-length-positive = elim row-length-is [ inl e ↦ omega (arith, e, order-is .positive) | inr e ↦ omega (arith, e .0, order-is .positive) ]
@@ -193,44 +179,45 @@ module _ (p h : ℕ) (odd : p ≡ suc (h + h)) (some : 0 < h) where
   -- the length of a row is the order of 4
   pub row-length-returns : Cong p (2 ^ (row-length p + row-length p)) 1
   row-length-returns =
-      elim row-length-is
-        [ inl e ↦ subst (λ (z : ℕ). Cong p (2 ^ z) 1) e (leaves-cong (order p) big (order-is .leaves-one))
+      elim row-length-is [
+        | inl e ↦ subst (λ (z : ℕ). Cong p (2 ^ z) 1) e (leaves-cong (order p) big (order-is .leaves-one))
         | inr e ↦ subst
             (λ (z : ℕ). Cong p (2 ^ z) 1)
             (omega (arith, e .0))
             (order-multiple p (order p) big order-is 2)
-        ]
+      ]
 
   pub row-length-first : (d : ℕ) → 0 < d → d < row-length p → ¬ (Cong p (2 ^ (d + d)) 1)
   row-length-first d dpos u one =
-      elim row-length-is
-        [ inl e ↦ order-is .least (d + d) (omega arith) (omega (arith, e)) (cong-leaves (d + d) big one)
+      elim row-length-is [
+        | inl e ↦ order-is .least (d + d) (omega arith) (omega (arith, e)) (cong-leaves (d + d) big one)
         | inr e ↦ odd-order (e .0) (e .1)
-        ]
+      ]
     where
       odd-order : order p ≡ row-length p → order p % 2 ≡ 1 → ⊥
       odd-order e one′ =
           let divided : (d + d) % order p ≡ 0 = order-divides p (order p) big order-is (d + d) one in
-          elim (decLt (d + d) (order p))
-            [ yes v ↦ omega (arith, divided, mod-eq-of-lt v)
-            | no v ↦ omega
-                ( arith
-                , divided
-                , mod-eq-sub-mod {n = d + d} {m = order p} (omega arith)
-                , mod-eq-of-lt {n = d + d - order p} {m = order p} (omega arith) )
-            ]
+          elim (decLt (d + d) (order p)) [
+            | yes v ↦ omega (arith, divided, mod-eq-of-lt v)
+            | no v ↦ omega (
+              arith,
+              divided,
+              mod-eq-sub-mod {n = d + d} {m = order p} (omega arith),
+              mod-eq-of-lt {n = d + d - order p} {m = order p} (omega arith),
+            )
+          ]
 
   -- where 2n′ divides p − 1, 2^(p − 1) leaves 1
   pub rows-fit-leaves : (p - 1) % (2 * row-length p) ≡ 0 → 2 ^ (p - 1) % p ≡ 1
   rows-fit-leaves fit =
       cong-leaves
-        (p - 1)
-        big
-        (eq-cong
-          (ap (λ (z : ℕ). 2 ^ z) rows ∙ pow-mul 2 (row-length p + row-length p) ((p - 1) / (2 * row-length p)))
-          (cong-eq
-            (cong-pow ((p - 1) / (2 * row-length p)) row-length-returns)
-            (one-pow ((p - 1) / (2 * row-length p)))))
+      (p - 1)
+      big
+      (eq-cong
+      (ap (λ (z : ℕ). 2 ^ z) rows ∙ pow-mul 2 (row-length p + row-length p) ((p - 1) / (2 * row-length p)))
+      (cong-eq
+      (cong-pow ((p - 1) / (2 * row-length p)) row-length-returns)
+      (one-pow ((p - 1) / (2 * row-length p)))))
     where
       rows : p - 1 ≡ (row-length p + row-length p) * ((p - 1) / (2 * row-length p))
       rows = sym (mod-add-div (p - 1) (2 * row-length p)) ∙ omega (arith, fit)
@@ -242,25 +229,30 @@ module _ (p h : ℕ) (odd : p ≡ suc (h + h)) (some : 0 < h) where
   -- and so does 2n′, since p − 1 is even
   pub leaves-rows-fit : 2 ^ (p - 1) % p ≡ 1 → (p - 1) % (2 * row-length p) ≡ 0
   leaves-rows-fit one =
-      elim row-length-is
-        [ inl e ↦ subst (λ (z : ℕ). (p - 1) % z ≡ 0) (omega (arith, e)) (order-divides-whole one)
+      elim row-length-is [
+        | inl e ↦ subst (λ (z : ℕ). (p - 1) % z ≡ 0) (omega (arith, e)) (order-divides-whole one)
         | inr e ↦ odd-order (e .0) (e .1)
-        ]
+      ]
     where
       count : ℕ
       count = (p - 1) / order p
+
       all : p - 1 ≡ order p * count
       all = sym (mod-add-div (p - 1) (order p)) ∙ omega (arith, order-divides-whole one)
+
       odd-order : order p ≡ row-length p → order p % 2 ≡ 1 → (p - 1) % (2 * row-length p) ≡ 0
       odd-order e o =
           ap (λ (z : ℕ). z % (2 * row-length p)) (all ∙ twice) ∙ mul-mod-right (2 * row-length p) (count / 2)
         where
           half : ℕ
           half = order p / 2
+
           order-odd : order p ≡ suc (half + half)
           order-odd = omega (arith, o)
+
           even : count ≡ 2 * (count / 2)
           even = omega (arith, all, ap (λ (z : ℕ). z * count) order-odd)
+
           twice : order p * count ≡ 2 * row-length p * (count / 2)
           twice = ap₂ _*_ e even ∙ omega arith
 
@@ -277,5 +269,6 @@ module _ (p h : ℕ) (odd : p ≡ suc (h + h)) (some : 0 < h) where
     where
       not-below : ¬ (d < order p)
       not-below u = order-is .least d dpos u leaves
+
       not-above : ¬ (order p < d)
       not-above u = least (order p) (order-is .positive) u (order-divides-whole one) (order-is .leaves-one)

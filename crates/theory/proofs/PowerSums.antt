@@ -29,23 +29,24 @@ pub telescoped : (m n : ℕ) → sum (suc n) (λ j. choose (suc n) j * powers-be
 unfolding powers-below
 telescoped zero n =
     sum-nought
-      (suc n)
-      (λ j. choose (suc n) j * sum 0 (λ x. x ^ j))
-      (λ j _. ap (λ (z : ℕ). choose (suc n) j * z) (sum-zero (λ x. x ^ j)) ∙ mul-zero (choose (suc n) j))
+    (suc n)
+    (λ j. choose (suc n) j * sum 0 (λ x. x ^ j))
+    (λ j _. ap (λ (z : ℕ). choose (suc n) j * z) (sum-zero (λ x. x ^ j)) ∙ mul-zero (choose (suc n) j))
     ∙ sym (zero-pow n)
 telescoped (suc m) n =
     sum-ext
-      (suc n)
-      (λ j. choose (suc n) j * sum (suc m) (λ x. x ^ j))
-      (λ j. choose (suc n) j * sum m (λ x. x ^ j) + choose (suc n) j * m ^ j)
-      (λ j _. omega (arith, ap (λ (z : ℕ). choose (suc n) j * z) (sum-suc m (λ x. x ^ j))))
+    (suc n)
+    (λ j. choose (suc n) j * sum (suc m) (λ x. x ^ j))
+    (λ j. choose (suc n) j * sum m (λ x. x ^ j) + choose (suc n) j * m ^ j)
+    (λ j _. omega (arith, ap (λ (z : ℕ). choose (suc n) j * z) (sum-suc m (λ x. x ^ j))))
     ∙ sum-add (suc n) (λ j. choose (suc n) j * sum m (λ x. x ^ j)) (λ j. choose (suc n) j * m ^ j)
     ∙ ap (λ (z : ℕ). z + sum (suc n) (λ j. choose (suc n) j * m ^ j)) (telescoped m n)
-    ∙ omega
-        ( arith
-        , binomial (suc n) m
-        , sum-suc (suc n) (λ j. choose (suc n) j * m ^ j)
-        , ap (λ (z : ℕ). z * m ^ suc n) (choose-self (suc n)) )
+    ∙ omega (
+      arith,
+      binomial (suc n) m,
+      sum-suc (suc n) (λ j. choose (suc n) j * m ^ j),
+      ap (λ (z : ℕ). z * m ^ suc n) (choose-self (suc n)),
+    )
 
 -- the left side of the recurrence
 pub left : (ℕ → ℕ) → ℕ → ℕ
@@ -61,9 +62,9 @@ left-mul : (c : ℕ) (b : ℕ → ℕ) (n : ℕ) → left (λ j. c * b j) n ≡ 
 unfolding left
 left-mul c b n =
     ap
-      (λ (z : ℕ). (n + 1) * (c * b n) + z)
-      (sum-ext n (λ j. choose (n + 1) j * (c * b j)) (λ j. c * (choose (n + 1) j * b j)) (λ j _. omega arith)
-      ∙ sum-mul n c (λ j. choose (n + 1) j * b j))
+    (λ (z : ℕ). (n + 1) * (c * b n) + z)
+    (sum-ext n (λ j. choose (n + 1) j * (c * b j)) (λ j. c * (choose (n + 1) j * b j)) (λ j _. omega arith)
+    ∙ sum-mul n c (λ j. choose (n + 1) j * b j))
     ∙ omega arith
 
 -- what stands below n, under congruent sequences
@@ -73,10 +74,10 @@ below-cong
     → Cong m (sum n (λ j. choose (n + 1) j * b j)) (sum n (λ j. choose (n + 1) j * c j))
 below-cong b c n e =
     sum-cong
-      n
-      (λ j. choose (n + 1) j * b j)
-      (λ j. choose (n + 1) j * c j)
-      (λ j h. cong-mul-left (choose (n + 1) j) (e j h))
+    n
+    (λ j. choose (n + 1) j * b j)
+    (λ j. choose (n + 1) j * c j)
+    (λ j h. cong-mul-left (choose (n + 1) j) (e j h))
 
 left-cong
     : {m : ℕ} (b c : ℕ → ℕ) (n : ℕ) → ((j : ℕ) → j ≤ n → Cong m (b j) (c j)) → Cong m (left b n) (left c n)
@@ -112,15 +113,15 @@ module _ (p g : ℕ) (big : 1 < p) (sound : Sound p g) where
   same-left b c first step (suc bound) zero h u = first
   same-left b c first step (suc bound) (suc n) h u =
       sound-cancel
-        p
-        g
-        big
-        sound
-        (suc n + 1)
-        (λ e. omega (arith, e, mod-eq-of-lt {n = suc n + 1} {m = p} (omega arith)))
-        (cong-subtract
-          (eq-cong (omega arith) (cong-eq (step (suc n) (omega arith) u) (omega arith)))
-          (below-cong b c (suc n) (λ j v. same-left b c first step bound j (omega arith) (omega arith))))
+      p
+      g
+      big
+      sound
+      (suc n + 1)
+      (λ e. omega (arith, e, mod-eq-of-lt {n = suc n + 1} {m = p} (omega arith)))
+      (cong-subtract
+      (eq-cong (omega arith) (cong-eq (step (suc n) (omega arith) u) (omega arith)))
+      (below-cong b c (suc n) (λ j v. same-left b c first step bound j (omega arith) (omega arith))))
 
   -- p divides the sums of powers
   powers-divisible : (n : ℕ) → n ≤ p - 3 → Cong p (powers-below p n) 0
@@ -128,13 +129,15 @@ module _ (p g : ℕ) (big : 1 < p) (sound : Sound p g) where
     where
       first : Cong p (powers-below p 0) 0
       first = eq-cong (powers-none p) (cong-zero 1)
+
       nought : (m : ℕ) → left (λ _. 0) m ≡ 0
       nought m = left-mul 0 (λ _. 0) m ∙ omega arith
+
       step : (m : ℕ) → 1 ≤ m → m ≤ p - 3 → Cong p (left (powers-below p) m) (left (λ _. 0) m)
       step m h v =
           eq-cong
-            (left-powers p m)
-            (cong-eq (power-zero (suc m) (omega arith)) (sym (nought m)))
+          (left-powers p m)
+          (cong-eq (power-zero (suc m) (omega arith)) (sym (nought m)))
 
   -- the p-th part of the sum of the n-th powers
   part : ℕ → ℕ
@@ -155,30 +158,31 @@ module _ (p g : ℕ) (big : 1 < p) (sound : Sound p g) where
   part-left : (n : ℕ) → 1 ≤ n → n ≤ p - 3 → Cong p (left part n) 0
   part-left n h u =
       cong-trans
-        (cong-unscale
-          p
-          (omega arith)
-          (cong-trans
-            (cong-of-eq (sym (left-mul p part n)))
-            (cong-trans
-              (left-cong (λ j. p * part j) (powers-below p) n (λ j v. cong-of-eq (sym (part-is j (omega arith)))))
-              (cong-of-eq (left-powers p n ∙ pow-suc p n ∙ mul-comm (p ^ n) p)))))
-        (power-zero n h)
+      (cong-unscale
+      p
+      (omega arith)
+      (cong-trans
+      (cong-of-eq (sym (left-mul p part n)))
+      (cong-trans
+      (left-cong (λ j. p * part j) (powers-below p) n (λ j v. cong-of-eq (sym (part-is j (omega arith)))))
+      (cong-of-eq (left-powers p n ∙ pow-suc p n ∙ mul-comm (p ^ n) p)))))
+      (power-zero n h)
 
   pub solution : (b : ℕ → ℕ) × Recurrence p b
   unfolding left
-  solution =
-      ( (λ n. part n % p)
-      , record
-          { first = ap (λ (z : ℕ). z % p) part-first ∙ one-leaves big
-          ; under = λ n _ _. mod-lt (part n) (omega arith)
-          ; divided = λ n h u.
-              cong-mod
-                (cong-trans
-                  (left-cong (λ j. part j % p) part n (λ j _. cong-rem p (part j)))
-                  (part-left n h u))
-              ∙ zero-mod p
-          } )
+  solution = (
+    (λ n. part n % p),
+    record {
+      first = ap (λ (z : ℕ). z % p) part-first ∙ one-leaves big;
+      under = λ n _ _. mod-lt (part n) (omega arith);
+      divided = λ n h u.
+          cong-mod
+          (cong-trans
+          (left-cong (λ j. part j % p) part n (λ j _. cong-rem p (part j)))
+          (part-left n h u))
+          ∙ zero-mod p;
+    },
+  )
 
   -- a solution agrees with the parts
   solution-part : (b : ℕ → ℕ) → Recurrence p b → (n : ℕ) → n ≤ p - 3 → Cong p (b n) (part n)
@@ -192,9 +196,9 @@ module _ (p g : ℕ) (big : 1 < p) (sound : Sound p g) where
   one-solution b c r s zero u = r .first ∙ sym (s .first)
   one-solution b c r s (suc n) u =
       cong-under
-        (r .under (suc n) (omega arith) u)
-        (s .under (suc n) (omega arith) u)
-        (cong-trans (solution-part b r (suc n) u) (cong-sym (solution-part c s (suc n) u)))
+      (r .under (suc n) (omega arith) u)
+      (s .under (suc n) (omega arith) u)
+      (cong-trans (solution-part b r (suc n) u) (cong-sym (solution-part c s (suc n) u)))
 
   -- p·b_n and the sum of the n-th powers leave the same remainder by p²
   pub power-sums : (b : ℕ → ℕ) → Recurrence p b → (n : ℕ) → n ≤ p - 3 → Cong (p * p) (p * b n) (powers-below p n)

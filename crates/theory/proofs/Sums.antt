@@ -61,13 +61,14 @@ pub sum-squeeze
 unfolding sum
 sum-squeeze zero f g h s i u = omega arith
 sum-squeeze (suc n) f g h s i u =
-    elim (last-or-below u)
-      [ inl e ↦ ap f e ∙ last ∙ sym (ap g e)
+    elim (last-or-below u) [
+      | inl e ↦ ap f e ∙ last ∙ sym (ap g e)
       | inr v ↦ sum-squeeze n f g below (omega (arith, s, last)) i v
-      ]
+    ]
   where
     below : (j : ℕ) → j < n → f j ≤ g j
     below j v = h j (le-step v)
+
     last : f n ≡ g n
     last = omega (arith, s, sum-mono n f g below, h n (lt-suc-self n))
 

@@ -5,3 +5,5 @@ pub mod Bernoulli
 pub mod Direct
 pub mod Doubling
 pub mod Kinds
+pub mod Theorems
+pub mod Examples
