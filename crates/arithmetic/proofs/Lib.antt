@@ -1,1 +1,3 @@
 pub mod Squaring
+pub mod Newton
+pub mod Halving

@@ -1,9 +1,13 @@
 // Arithmetics modulo p and what they have in common, and the refusals of every call.
+mod montgomery;
 mod plain;
 mod power;
 mod refusal;
 mod traits;
 
+pub use montgomery::Montgomery;
+pub use montgomery::MontgomeryArithmetic;
+pub use montgomery::MontgomeryElement;
 pub use plain::Plain;
 pub use plain::PlainArithmetic;
 pub use plain::PlainElement;
