@@ -1,3 +1,4 @@
 pub mod Squaring
 pub mod Newton
 pub mod Halving
+pub mod Signed

@@ -1,10 +1,14 @@
 // Arithmetics modulo p and what they have in common, and the refusals of every call.
+mod balanced;
 mod montgomery;
 mod plain;
 mod power;
 mod refusal;
 mod traits;
 
+pub use balanced::Balanced;
+pub use balanced::BalancedArithmetic;
+pub use balanced::BalancedElement;
 pub use montgomery::Montgomery;
 pub use montgomery::MontgomeryArithmetic;
 pub use montgomery::MontgomeryElement;
