@@ -63,9 +63,9 @@ pub halved-difference : (p r a b : ℕ) → 0 < p → (r + b) % p ≡ a % p → 
 halved-difference p r a b positive same =
     let h = ((p + 1) / 2) ^ 32 in
     minus-of-sum p (halved p r) (halved p a) (halved p b) positive (mod-lt (r * h) positive)
-      (sym (halved-sum p (r + b) r b (refl))
-      ∙ halved-mod p (r + b) a same
-      ∙ sym (mod-mod (a * h) p))
+    (sym (halved-sum p (r + b) r b (refl))
+    ∙ halved-mod p (r + b) a same
+    ∙ sym (mod-mod (a * h) p))
 
 pub halved-product : (p r a b : ℕ) → p % 2 ≡ 1 → r * 2 ^ 32 % p ≡ a * b % p → halved p r ≡ halved p a * halved p b % p
 halved-product p r a b odd same =
@@ -119,7 +119,7 @@ brought-below p n square positive small squared =
 pub brought-word : (p n square r : ℕ) → p % 2 ≡ 1 → square ≡ 2 ^ 64 % p → r * 2 ^ 32 % p ≡ n * square % p → r < p → r ≡ n * 2 ^ 32 % p
 brought-word p n square r odd squared reduced under =
     let twice : n * 2 ^ 32 * 2 ^ 32 % p ≡ n * square % p =
-        ap (λ (y : ℕ). y % p) (mul-assoc n (2 ^ 32) (2 ^ 32)) ∙ sym (mul-mod-right n (2 ^ 64) p) ∙ ap (λ (y : ℕ). n * y % p) (sym squared) in
+    ap (λ (y : ℕ). y % p) (mul-assoc n (2 ^ 32) (2 ^ 32)) ∙ sym (mul-mod-right n (2 ^ 64) p) ∙ ap (λ (y : ℕ). n * y % p) (sym squared) in
     sym (mod-eq-of-lt under) ∙ sym (halved-of p r (n * square) odd reduced) ∙ halved-of p (n * 2 ^ 32) (n * square) odd twice
 
 pub brought-residue : (p n r : ℕ) → p % 2 ≡ 1 → r ≡ n * 2 ^ 32 % p → halved p r ≡ n % p

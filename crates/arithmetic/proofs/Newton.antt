@@ -12,7 +12,7 @@ newton-product : (z y k n c e s t : ℕ) → k * k ≡ n * e → z ≡ 1 + k * c
 newton-product z y k n c e s t divides one two =
     let less : y + k * c + n * s ≡ 1 + n * t = omega arith in
     let whole : z * y + n * (e * c * c + k * c * s + s) ≡ 1 + n * (t + k * c * t) =
-        omega (arith, ap (λ (v : ℕ). v * (c * c)) divides, ap (λ (v : ℕ). v * y) one, ap (λ (v : ℕ). v * (k * c)) less) in
+    omega (arith, ap (λ (v : ℕ). v * (c * c)) divides, ap (λ (v : ℕ). v * y) one, ap (λ (v : ℕ). v * (k * c)) less) in
     sym (add-mul-mod-self-left (z * y) n (e * c * c + k * c * s + s))
     ∙ ap (λ (v : ℕ). v % n) whole
     ∙ add-mul-mod-self-left 1 n (t + k * c * t)
@@ -29,9 +29,9 @@ newton p x m k n d e words word-divides divides right =
     let one : z ≡ 1 + k * (z / k) = omega (arith, mod-add-div z k) in
     let around : y + m * q ≡ 2 + (m - w) = mod-add-div (2 + (m - w)) m in
     let two : y + z + n * (d * q) ≡ 2 + n * (d + d * (z / m)) =
-        omega (arith, mod-add-div z m, ap (λ (v : ℕ). v * q) word-divides, ap (λ (v : ℕ). v * (z / m)) word-divides) in
+    omega (arith, mod-add-div z m, ap (λ (v : ℕ). v * q) word-divides, ap (λ (v : ℕ). v * (z / m)) word-divides) in
     let split : p * (x * y % m) + n * (d * (x * y / m) * p) ≡ z * y =
-        omega (arith, ap (λ (v : ℕ). p * v) (mod-add-div (x * y) m), ap (λ (v : ℕ). v * (x * y / m) * p) word-divides) in
+    omega (arith, ap (λ (v : ℕ). p * v) (mod-add-div (x * y) m), ap (λ (v : ℕ). v * (x * y / m) * p) word-divides) in
     sym (add-mul-mod-self-left (p * (x * y % m)) n (d * (x * y / m) * p))
     ∙ ap (λ (v : ℕ). v % n) split
     ∙ newton-product z y k n (z / k) e (d * q) (d + d * (z / m)) divides one two
@@ -44,9 +44,9 @@ newton-bits p x k j right some twice short =
     let bits : j + (k + k - j) ≡ k + k = omega arith in
     let two : 2 ^ 1 ≤ 2 ^ j = pow-mono some in
     newton p x (2 ^ 32) (2 ^ k) (2 ^ j) (2 ^ (32 - j)) (2 ^ (k + k - j)) (omega arith)
-      (sym (sym (pow-add 2 j (32 - j)) ∙ ap (λ (v : ℕ). 2 ^ v) word-bits))
-      (sym (pow-add 2 k k) ∙ sym (ap (λ (v : ℕ). 2 ^ v) bits) ∙ pow-add 2 j (k + k - j))
-      right
+    (sym (sym (pow-add 2 j (32 - j)) ∙ ap (λ (v : ℕ). 2 ^ v) word-bits))
+    (sym (pow-add 2 k k) ∙ sym (ap (λ (v : ℕ). 2 ^ v) bits) ∙ pow-add 2 j (k + k - j))
+    right
     ∙ mod-eq-of-lt (omega arith)
 
 -- one of two numbers in a row is even

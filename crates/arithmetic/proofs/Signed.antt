@@ -26,7 +26,7 @@ negative-mod p n positive =
     let less : n / p ≤ n = div-le-self n p in
     let left : n - n / p + n / p ≡ n = omega arith in
     let whole : q * suc n ≡ q - n % p + p * (n - n / p) =
-        omega (arith, ap (λ (y : ℕ). y * n) one-more, ap (λ (y : ℕ). p * y) left) in
+    omega (arith, ap (λ (y : ℕ). y * n) one-more, ap (λ (y : ℕ). p * y) left) in
     ap (λ (y : ℕ). y % p) whole ∙ add-mul-mod-self-left (q - n % p) p (n - n / p) ∙ mod-eq-of-lt (omega arith)
 
 -- the remainder of u − d
@@ -63,7 +63,7 @@ remainder-sum p a b positive =
 pub remainder-difference : (p : ℕ) (a b c : ℤ) → 0 < p → c +ℤ b ≡ a → remainder p c ≡ minus p (remainder p a) (remainder p b)
 remainder-difference p a b c positive same =
     minus-of-sum p (remainder p c) (remainder p a) (remainder p b) positive (remainder-under p c positive)
-      (sym (remainder-sum p c b positive) ∙ ap (remainder p) same ∙ sym (mod-eq-of-lt (remainder-under p a positive)))
+    (sym (remainder-sum p c b positive) ∙ ap (remainder p) same ∙ sym (mod-eq-of-lt (remainder-under p a positive)))
 
 pub remainder-product : (p : ℕ) (a b : ℤ) → 0 < p → remainder p (a *ℤ b) ≡ remainder p a * remainder p b % p
 remainder-product p a b positive =
@@ -71,7 +71,7 @@ remainder-product p a b positive =
     let one-more : p ≡ suc q = omega arith in
     let x = up a in let y = down a in let z = up b in let w = down b in
     let spread : x * z + y * w + q * (x * w + y * z) + p * (q * (y * w)) ≡ (x + q * y) * (z + q * w) + p * (y * w) =
-        omega (arith, ap (λ (v : ℕ). v * (q * (y * w))) one-more, ap (λ (v : ℕ). v * (y * w)) one-more) in
+    omega (arith, ap (λ (v : ℕ). v * (q * (y * w))) one-more, ap (λ (v : ℕ). v * (y * w)) one-more) in
     remainder-of p (a *ℤ b) (x * z + y * w) (x * w + y * z) positive (omega (arith, product-is a b))
     ∙ sym (add-mul-mod-self-left (x * z + y * w + q * (x * w + y * z)) p (q * (y * w)))
     ∙ ap (λ (v : ℕ). v % p) spread

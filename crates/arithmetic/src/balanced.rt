@@ -35,7 +35,11 @@ impl Balanced {
     {
         let modulus = self.modulus as i64;
         let rest = n.rem_euclid(modulus);
-        if rest > modulus / 2 { BalancedElement((rest - modulus) as i32) } else { BalancedElement(rest as i32) }
+        if rest > modulus / 2 {
+            BalancedElement((rest - modulus) as i32)
+        } else {
+            BalancedElement(rest as i32)
+        }
     }
 }
 

@@ -1,5 +1,6 @@
 // Arithmetics modulo p and what they have in common, and the refusals of every call.
 mod balanced;
+mod either;
 mod montgomery;
 mod plain;
 mod power;
@@ -9,6 +10,9 @@ mod traits;
 pub use balanced::Balanced;
 pub use balanced::BalancedArithmetic;
 pub use balanced::BalancedElement;
+pub use either::Either;
+pub use either::EitherArithmetic;
+pub use either::EitherElement;
 pub use montgomery::Montgomery;
 pub use montgomery::MontgomeryArithmetic;
 pub use montgomery::MontgomeryElement;

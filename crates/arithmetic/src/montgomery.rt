@@ -49,7 +49,11 @@ impl Montgomery {
         let reciprocal = reciprocal_of(modulus);
         let one = 4294967296u64 % modulus as u64;
         let square = (one * one % modulus as u64) as u32;
-        Ok(Montgomery { modulus, reciprocal, square })
+        Ok(Montgomery {
+            modulus,
+            reciprocal,
+            square,
+        })
     }
 
     // t/2^32 modulo p: t less the multiple of p that has the same low word leaves a multiple of 2^32.
@@ -61,7 +65,11 @@ impl Montgomery {
         let low = (t % 4294967296) as u32;
         let times = low.wrapping_mul(self.reciprocal);
         let taken = (times as u64 * self.modulus as u64 >> 32) as u32;
-        if high < taken { high + self.modulus - taken } else { high - taken }
+        if high < taken {
+            high + self.modulus - taken
+        } else {
+            high - taken
+        }
     }
 
     // The word below p of a number. A number below 2p, which is all that words below p give, needs no division.
@@ -71,14 +79,22 @@ impl Montgomery {
     {
         let modulus = self.modulus as u64;
         let once = less_once(n, modulus);
-        if once < modulus { MontgomeryElement(once as u32) } else { MontgomeryElement((once % modulus) as u32) }
+        if once < modulus {
+            MontgomeryElement(once as u32)
+        } else {
+            MontgomeryElement((once % modulus) as u32)
+        }
     }
 
     // What gives 0 with a word.
     fn opposite(&self, word: u32) -> u32
         ensures value { λ r. ⌜ (r + word) % now (self .entry) .modulus ≡ 0 ⌝ }
     {
-        if word < self.modulus { self.modulus - word } else { self.modulus - word % self.modulus }
+        if word < self.modulus {
+            self.modulus - word
+        } else {
+            self.modulus - word % self.modulus
+        }
     }
 }
 

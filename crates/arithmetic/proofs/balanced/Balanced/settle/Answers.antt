@@ -16,7 +16,7 @@ returns-then-rest-modulus c =
     let small : p < 2147483648 = omega (arith, c .args .self .now .fit .2) in
     let under : remainder p n < p = remainder-under p n positive in
     let rest : c .rem-euclid-rest .result ≡ pos (remainder p n) =
-        remainder-words p n (c .rem-euclid-rest .result) (omega arith) (c .fits .n) (c .rem-euclid-rest .ensures .value) in
+    remainder-words p n (c .rem-euclid-rest .result) (omega arith) (c .fits .n) (c .rem-euclid-rest .ensures .value) in
     let above = c .if-rest-modulus .taken in
     record {
       value = remainder-less p n _ positive (omega (arith, ints));
@@ -32,7 +32,7 @@ returns-else-rest-modulus c =
     let small : p < 2147483648 = omega (arith, c .args .self .now .fit .2) in
     let under : remainder p n < p = remainder-under p n positive in
     let rest : c .rem-euclid-rest .result ≡ pos (remainder p n) =
-        remainder-words p n (c .rem-euclid-rest .result) (omega arith) (c .fits .n) (c .rem-euclid-rest .ensures .value) in
+    remainder-words p n (c .rem-euclid-rest .result) (omega arith) (c .fits .n) (c .rem-euclid-rest .ensures .value) in
     let most = c .if-rest-modulus .left in
     record {
       value = remainder-same p n _ positive (omega (arith, ints));

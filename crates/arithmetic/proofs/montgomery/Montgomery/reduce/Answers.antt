@@ -7,7 +7,7 @@ use Rattle.arithmetic.proofs.montgomery.Montgomery.reduce.Needs as need
 taken-below : (c : need.Then-high-taken) → (c .args .t % 4294967296 * c .args .self .now .reciprocal % 4294967296) * c .args .self .now .modulus / 4294967296 < c .args .self .now .modulus
 taken-below c =
     high-below (c .args .self .now .modulus) (c .args .t % 4294967296 * c .args .self .now .reciprocal % 4294967296) 4294967296
-      (omega (arith, c .args .self .now .fit .1)) (omega arith) (omega arith)
+    (omega (arith, c .args .self .now .fit .1)) (omega arith) (omega arith)
 
 pub add-result : need.add-result
 add-result c = omega (arith, taken-below c, c .args .self .now .fit .2)

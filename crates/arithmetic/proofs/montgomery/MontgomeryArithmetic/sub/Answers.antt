@@ -9,6 +9,6 @@ returns c =
     let b = c .args .b .0 in
     record {
       value = halved-difference p (c .settle .result .0) a b (omega (arith, c .args .self .now .fit .1))
-        (with-opposite p (c .settle .result .0) a b (c .opposite .result) (c .settle .ensures .value) (c .opposite .ensures .value));
+          (with-opposite p (c .settle .result .0) a b (c .opposite .result) (c .settle .ensures .value) (c .opposite .ensures .value));
       word = c .settle .ensures .word;
     }
