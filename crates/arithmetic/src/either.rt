@@ -4,7 +4,7 @@ ghost use Prim.Native.Nat.{ℕ};
 ghost use Rattle.arithmetic.specs.Sides.{of-either, residue-on-left, residue-on-right, residue-of};
 use crate::traits::Arithmetic;
 
-#[derive(Clone, Copy)]
+#[derive(Clone, Copy, Drop)]
 pub enum Either<L, R> {
     Left(L),
     Right(R),

@@ -69,7 +69,7 @@ guess-above p l v x positive some small =
     let low-part : suc t * p ≤ l * p = mul-le-mul-right p dropped in
     let rest-part : s * x ≤ p * l = mul-le-mul {n₁ = s} {m₁ = x} {n₂ = p} {m₂ = l} (omega arith) small in
     let scaled : l * (v * x) < l * ((g + 2) * p) =
-        omega (arith, ap (λ (k : ℕ). k * x) (div-add-mod (l * v) p), ap (λ (k : ℕ). k * p) (div-add-mod (x * r) l)) in
+    omega (arith, ap (λ (k : ℕ). k * x) (div-add-mod (l * v) p), ap (λ (k : ℕ). k * p) (div-add-mod (x * r) l)) in
     let less : v * x / p < g + 2 = div-lt-iff-lt-mul {k = p} {x = v * x} {y = g + 2} positive .1 (lt-of-mul-lt-mul-left l scaled) in
     omega arith
 
@@ -98,7 +98,7 @@ guess-product p e x under =
 pub guess-near : (p e w x m r : ℕ) → 0 < p → w ≤ e → x < p → x ≤ 2 ^ (e - w) → 2 ^ e < m → r ≡ 2 ^ e / p → Near (2 ^ w * x / p) (x * r % m / 2 ^ (e - w))
 guess-near p e w x m r positive within under small room whole =
     let same : x * r % m / 2 ^ (e - w) ≡ x * (2 ^ e / p) / 2 ^ (e - w) =
-        ap (λ (k : ℕ). x * k % m / 2 ^ (e - w)) whole ∙ ap (λ (k : ℕ). k / 2 ^ (e - w)) (mod-eq-of-lt (omega (arith, guess-product p e x under))) in
+    ap (λ (k : ℕ). x * k % m / 2 ^ (e - w)) whole ∙ ap (λ (k : ℕ). k / 2 ^ (e - w)) (mod-eq-of-lt (omega (arith, guess-product p e x under))) in
     record {
       low = omega (arith, guess-low p e w x positive within);
       high = omega (arith, guess-high p e w x positive within small);

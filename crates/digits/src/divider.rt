@@ -3,9 +3,9 @@ ghost use mathlib.Core.Path.{_≡_};
 ghost use Prim.Native.Nat.{ℕ, _+_, _*_, _/_, _%_};
 ghost use Rattle.arithmetic.specs.Made.{Made};
 ghost use Rattle.digits.specs.Counts.{Handed};
-use arithmetic::Refusal;
 use crate::tally::Tally;
 use crate::traits::DigitSource;
+use arithmetic::Refusal;
 
 #[derive(Drop)]
 pub struct Divider {

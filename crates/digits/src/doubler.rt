@@ -3,9 +3,9 @@ ghost use mathlib.Core.Path.{_≡_};
 ghost use Prim.Native.Nat.{ℕ, _+_, _*_, _<_, _≤_, _^_};
 ghost use Rattle.arithmetic.specs.Made.{Made};
 ghost use Rattle.digits.specs.Counts.{Handed};
-use arithmetic::Refusal;
 use crate::tally::Tally;
 use crate::traits::DigitSource;
+use arithmetic::Refusal;
 
 #[derive(Drop)]
 pub struct Doubler {
@@ -18,7 +18,11 @@ fn start(p: u32, x: u32) -> (u64, u32)
     ensures whole { λ r. ⌜ r .0 * p + r .1 ≡ x ⌝ }
     ensures rest { λ r. ⌜ r .1 < p ⌝ }
 {
-    if x < p { (0, x) } else { ((x / p) as u64, x % p) }
+    if x < p {
+        (0, x)
+    } else {
+        ((x / p) as u64, x % p)
+    }
 }
 
 // The quotient and the rest of twice the number: one digit more.
@@ -30,7 +34,11 @@ fn doubled(p: u32, quotient: u64, rest: u32) -> (u64, u32)
     ensures rest { λ r. ⌜ r .1 < p ⌝ }
 {
     let twice = 2 * rest;
-    if twice < p { (2 * quotient, twice) } else { (2 * quotient + 1, twice - p) }
+    if twice < p {
+        (2 * quotient, twice)
+    } else {
+        (2 * quotient + 1, twice - p)
+    }
 }
 
 impl Doubler {

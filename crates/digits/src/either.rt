@@ -2,8 +2,8 @@
 ghost use mathlib.Core.Path.{_≡_};
 ghost use Prim.Native.Nat.{ℕ};
 ghost use Rattle.arithmetic.specs.Sides.{of-either};
-use arithmetic::Either;
 use crate::traits::DigitSource;
+use arithmetic::Either;
 
 pub impl<L: DigitSource, R: DigitSource> DigitSource for Either<L, R> as EitherSource {
     ghost modulus = { of-either (L·DigitSource .modulus) (R·DigitSource .modulus) };

@@ -4,9 +4,9 @@ ghost use Prim.Native.Nat.{ℕ, _+_, _*_, _/_, _%_, _^_, _<_, _≤_};
 ghost use Rattle.arithmetic.specs.Made.{Made};
 ghost use Rattle.digits.specs.Counts.{Handed};
 ghost use Rattle.digits.specs.Guesses.{Near};
-use arithmetic::Refusal;
 use crate::tally::Tally;
 use crate::traits::DigitSource;
+use arithmetic::Refusal;
 
 #[derive(Drop)]
 pub struct Reciprocal {

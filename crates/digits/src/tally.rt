@@ -24,7 +24,10 @@ impl Tally {
         if modulus % 2 == 0 || modulus < 5 || modulus > 2147483647 {
             return Err(Refusal::Modulus);
         }
-        Ok(Tally { modulus, taken: taken.min(MOST) })
+        Ok(Tally {
+            modulus,
+            taken: taken.min(MOST),
+        })
     }
 
     // One more group is handed out.

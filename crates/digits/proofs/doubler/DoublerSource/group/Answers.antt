@@ -8,9 +8,9 @@ use Rattle.digits.proofs.doubler.DoublerSource.group.Needs as need
 
 pub loop-i-again : need.loop-i-again
 loop-i-again c =
-    let x = c .start-quotient .result .0 * c .args .self .now .tally .modulus + c .start-quotient .result .1 in
-    ( omega (arith, c .doubled .ensures .whole, c .loop-i .inv .0, ap (λ (k : ℕ). k * x) (pow-add 2 (c .loop-i .-i) 1))
-    , c .doubled .ensures .rest
+    let x = c .start-quotient .result .0 * c .args .self .now .tally .modulus + c .start-quotient .result .1 in (
+      omega (arith, c .doubled .ensures .whole, c .loop-i .inv .0, ap (λ (k : ℕ). k * x) (pow-add 2 (c .loop-i .-i) 1)),
+      c .doubled .ensures .rest,
     )
 
 pub doubled-requires : need.doubled-requires
@@ -22,8 +22,14 @@ doubled-requires c κs =
     record {
       fits = omega (arith, c .args .self .now .tally .fit .2);
       below = c .loop-i .inv .1;
-      room = omega (arith, c .loop-i .inv .0, c .start-quotient .ensures .whole, c .fits .x
-        , mul-le-mul-left {m = 1} {n = p} q (omega (arith, c .args .self .now .tally .fit .1)), mul-le-mul-right x few);
+      room = omega (
+        arith,
+        c .loop-i .inv .0,
+        c .start-quotient .ensures .whole,
+        c .fits .x,
+        mul-le-mul-left {m = 1} {n = p} q (omega (arith, c .args .self .now .tally .fit .1)),
+        mul-le-mul-right x few,
+      );
     }
 
 pub returns : need.returns
@@ -32,9 +38,9 @@ returns c =
     let x = c .args .x in
     let all : c .loop-i .-i ≡ 8 = omega arith in
     let whole : c .loop-i .quotient * p + c .loop-i .rest ≡ 256 * x =
-        c .loop-i .inv .0
-        ∙ ap (λ (k : ℕ). 2 ^ k * (c .start-quotient .result .0 * p + c .start-quotient .result .1)) all
-        ∙ ap (λ (k : ℕ). 256 * k) (c .start-quotient .ensures .whole) in
+    c .loop-i .inv .0
+    ∙ ap (λ (k : ℕ). 2 ^ k * (c .start-quotient .result .0 * p + c .start-quotient .result .1)) all
+    ∙ ap (λ (k : ℕ). 256 * k) (c .start-quotient .ensures .whole) in
     record {
       quotient = whole-quotient p (256 * x) (c .loop-i .quotient) (c .loop-i .rest) whole (c .loop-i .inv .1);
       remainder = whole-remainder p (256 * x) (c .loop-i .quotient) (c .loop-i .rest) whole (c .loop-i .inv .1);

@@ -11,5 +11,5 @@ returns c =
     record {
       value = ap (λ (k : ℕ). x * k % 2 ^ 64 / 2 ^ 54) (s .whole);
       near = λ under. guess-near (s .tally .modulus) 62 8 x (2 ^ 64) (s .reciprocal)
-        (omega (arith, s .tally .fit .1)) (omega arith) under (omega (arith, s .tally .fit .2)) (omega arith) (s .whole);
+          (omega (arith, s .tally .fit .1)) (omega arith) under (omega (arith, s .tally .fit .2)) (omega arith) (s .whole);
     }

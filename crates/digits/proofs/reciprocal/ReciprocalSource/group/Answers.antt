@@ -13,7 +13,7 @@ returns-then-rest-modulus c =
     let rest = (x * 256 + (2 ^ 64 - g * p)) % 2 ^ 64 in
     let few : g ≤ 1023 = omega (arith, c .guess-guess .ensures .value) in
     let whole : g * p + rest ≡ 256 * x =
-        omega (arith, c .if-rest-modulus .taken, mul-le-mul-right p few, c .args .self .now .tally .fit .2) in
+    omega (arith, c .if-rest-modulus .taken, mul-le-mul-right p few, c .args .self .now .tally .fit .2) in
     record {
       quotient = whole-quotient p (256 * x) g rest whole (c .if-rest-modulus .taken);
       remainder = whole-remainder p (256 * x) g rest whole (c .if-rest-modulus .taken);
@@ -30,7 +30,7 @@ returns-then-rest-modulus-2 c =
     let few : g ≤ 1023 = omega (arith, c .guess-guess .ensures .value) in
     let above : p ≤ rest = c .if-rest-modulus .left in
     let whole : (g + 1) * p + (rest - p) ≡ 256 * x =
-        omega (arith, c .if-rest-modulus-2 .taken, mul-le-mul-right p few, c .args .self .now .tally .fit .2) in
+    omega (arith, c .if-rest-modulus-2 .taken, mul-le-mul-right p few, c .args .self .now .tally .fit .2) in
     record {
       quotient = whole-quotient p (256 * x) (g + 1) (rest - p) whole (c .if-rest-modulus-2 .taken);
       remainder = whole-remainder p (256 * x) (g + 1) (rest - p) whole (c .if-rest-modulus-2 .taken);
