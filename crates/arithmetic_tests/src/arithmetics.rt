@@ -1,5 +1,8 @@
 // The three arithmetics, alone and chosen at run time.
 ghost use Prim.Native.Nat.{_<_};
+use crate::moduli::COMPOSITES;
+use crate::moduli::PRIMES;
+use crate::moduli::numbers;
 use arithmetic::Arithmetic;
 use arithmetic::Balanced;
 use arithmetic::BalancedArithmetic;
@@ -12,9 +15,6 @@ use arithmetic::PlainArithmetic;
 use arithmetic::RefusalDebug;
 use arithmetic::invert;
 use arithmetic::raise;
-use crate::moduli::COMPOSITES;
-use crate::moduli::PRIMES;
-use crate::moduli::numbers;
 use std::test::*;
 
 #[derive(Clone, Copy, PartialEq, Debug)]
@@ -77,15 +77,21 @@ fn agree(p: u32) -> Result<(), Fail> {
     let plain = Plain::new(p)?;
     let montgomery = Montgomery::new(p)?;
     let balanced = Balanced::new(p)?;
-    check_eq(plain.modulus(), p)?;
-    check_eq(montgomery.modulus(), p)?;
-    check_eq(balanced.modulus(), p)?;
+    check_eq(
+        [plain.modulus(), montgomery.modulus(), balanced.modulus()],
+        [p; 3],
+    )?;
     for a in numbers(p) {
         for b in numbers(p) {
             let expected = by_division(p, a, b);
-            check_eq(worked(&plain, a, b), expected)?;
-            check_eq(worked(&montgomery, a, b), expected)?;
-            check_eq(worked(&balanced, a, b), expected)?;
+            check_eq(
+                [
+                    worked(&plain, a, b),
+                    worked(&montgomery, a, b),
+                    worked(&balanced, a, b),
+                ],
+                [expected; 3],
+            )?;
         }
     }
     Ok(())
@@ -106,8 +112,7 @@ fn arithmetics_agree() -> Result<(), Fail> {
 fn chosen(p: u32) -> Result<(), Fail> {
     let left: Either<Plain, Montgomery> = Either::Left(Plain::new(p)?);
     let right: Either<Plain, Montgomery> = Either::Right(Montgomery::new(p)?);
-    check_eq(left.modulus(), p)?;
-    check_eq(right.modulus(), p)?;
+    check_eq([left.modulus(), right.modulus()], [p; 2])?;
     for a in numbers(p) {
         for b in numbers(p) {
             check_eq(worked(&left, a, b), worked(&right, a, b))?;
@@ -115,11 +120,19 @@ fn chosen(p: u32) -> Result<(), Fail> {
         // an element of the other side stands for 0
         let own = left.bring_in(a);
         let other = right.bring_in(a);
-        check_eq(left.take_out(other), 0)?;
-        check_eq(right.take_out(own), 0)?;
-        check_eq(left.take_out(left.add(own, other)), left.take_out(own))?;
-        check_eq(right.take_out(right.sub(other, own)), right.take_out(other))?;
-        check_eq(left.take_out(left.mul(own, other)), 0)?;
+        check_eq(
+            [
+                left.take_out(other),
+                right.take_out(own),
+                left.take_out(left.mul(own, other)),
+            ],
+            [0; 3],
+        )?;
+        let kept = [
+            left.take_out(left.add(own, other)),
+            right.take_out(right.sub(other, own)),
+        ];
+        check_eq(kept, [left.take_out(own), right.take_out(other)])?;
     }
     Ok(())
 }

@@ -16,47 +16,58 @@ fn refused<T: Drop>(made: Result<T, Refusal>) -> u8 {
     }
 }
 
+// What making each arithmetic and each source for the modulus answers.
+fn makings(modulus: u32) -> [u8; 9] {
+    [
+        refused(Plain::new(modulus)),
+        refused(Montgomery::new(modulus)),
+        refused(Balanced::new(modulus)),
+        refused(Doubler::new(modulus)),
+        refused(Divider::new(modulus)),
+        refused(Reciprocal::new(modulus)),
+        refused(Doubler::resume(modulus, 7)),
+        refused(Divider::resume(modulus, 7)),
+        refused(Reciprocal::resume(modulus, 7)),
+    ]
+}
+
 #[test]
 fn unfit_moduli() -> Result<(), Fail> {
     for modulus in [0, 1, 2, 3, 4, 6, 2147483648, 2147483649, 4294967295u32] {
-        check_eq(refused(Plain::new(modulus)), 2)?;
-        check_eq(refused(Montgomery::new(modulus)), 2)?;
-        check_eq(refused(Balanced::new(modulus)), 2)?;
-        check_eq(refused(Doubler::new(modulus)), 2)?;
-        check_eq(refused(Divider::new(modulus)), 2)?;
-        check_eq(refused(Reciprocal::new(modulus)), 2)?;
-        check_eq(refused(Reciprocal::resume(modulus, 7)), 2)?;
+        check_eq(makings(modulus), [2; 9])?;
     }
     for modulus in [5, 7, 9, 2147483645, 2147483647u32] {
-        check_eq(refused(Plain::new(modulus)), 0)?;
-        check_eq(refused(Montgomery::new(modulus)), 0)?;
-        check_eq(refused(Balanced::new(modulus)), 0)?;
-        check_eq(refused(Doubler::new(modulus)), 0)?;
-        check_eq(refused(Divider::new(modulus)), 0)?;
-        check_eq(refused(Reciprocal::new(modulus)), 0)?;
+        check_eq(makings(modulus), [0; 9])?;
     }
     Ok(())
 }
 
+static NUMBERED: [(Refusal, u8); 19] = [
+    (Refusal::Index, 1),
+    (Refusal::Modulus, 2),
+    (Refusal::Generator, 3),
+    (Refusal::IndexAboveModulus, 4),
+    (Refusal::ListingFull, 5),
+    (Refusal::AlreadyListed, 6),
+    (Refusal::OtherGenerator, 7),
+    (Refusal::OtherIndex, 8),
+    (Refusal::NotListed, 9),
+    (Refusal::AlreadyFilled, 10),
+    (Refusal::NotUsable, 11),
+    (Refusal::CellCount, 12),
+    (Refusal::OtherArithmetic, 13),
+    (Refusal::OtherSource, 14),
+    (Refusal::Share, 15),
+    (Refusal::DirectRun, 16),
+    (Refusal::NoTermLeft, 17),
+    (Refusal::TermsLeft, 18),
+    (Refusal::OutputShort, 23),
+];
+
 #[test]
 fn refusal_numbers() -> Result<(), Fail> {
-    check_eq(Refusal::Index.number(), 1)?;
-    check_eq(Refusal::Modulus.number(), 2)?;
-    check_eq(Refusal::Generator.number(), 3)?;
-    check_eq(Refusal::IndexAboveModulus.number(), 4)?;
-    check_eq(Refusal::ListingFull.number(), 5)?;
-    check_eq(Refusal::AlreadyListed.number(), 6)?;
-    check_eq(Refusal::OtherGenerator.number(), 7)?;
-    check_eq(Refusal::OtherIndex.number(), 8)?;
-    check_eq(Refusal::NotListed.number(), 9)?;
-    check_eq(Refusal::AlreadyFilled.number(), 10)?;
-    check_eq(Refusal::NotUsable.number(), 11)?;
-    check_eq(Refusal::CellCount.number(), 12)?;
-    check_eq(Refusal::OtherArithmetic.number(), 13)?;
-    check_eq(Refusal::OtherSource.number(), 14)?;
-    check_eq(Refusal::Share.number(), 15)?;
-    check_eq(Refusal::DirectRun.number(), 16)?;
-    check_eq(Refusal::NoTermLeft.number(), 17)?;
-    check_eq(Refusal::TermsLeft.number(), 18)?;
-    check_eq(Refusal::OutputShort.number(), 23)
+    for (refusal, number) in &NUMBERED {
+        check_eq(refusal.number(), *number)?;
+    }
+    Ok(())
 }
