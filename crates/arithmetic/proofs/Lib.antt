@@ -1,1 +1,5 @@
+pub mod Causes
 pub mod Squaring
+pub mod Newton
+pub mod Halving
+pub mod Signed

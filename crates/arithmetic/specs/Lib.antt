@@ -1,2 +1,5 @@
 pub mod Refusals
 pub mod Made
+pub mod Causes
+pub mod Words
+pub mod Sides

@@ -4,5 +4,6 @@ pub mod Sums
 pub mod Bernoulli
 pub mod Direct
 pub mod Doubling
+pub mod Kinds
 pub mod Theorems
 pub mod Examples

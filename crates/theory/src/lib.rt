@@ -6,6 +6,13 @@ ghost use Rattle.theory.specs.Examples.{examples-test};
 ghost use Rattle.theory.specs.Theorems.{Bernoulli-exist, Bernoulli-unique, Power-sums-give-bernoulli, Direct-gives-bernoulli};
 ghost use Rattle.theory.specs.Theorems.{Doubling-gives-bernoulli, Sound-rows-fit, Order-computed, Rows-fit, Order-least-divisor};
 
+mod kind;
+
+pub use kind::Kind;
+pub use kind::KindDebug;
+pub use kind::KindEq;
+pub use kind::KindPartialEq;
+
 // For a sound pair the recurrence has one and only one solution b_0, …, b_(p − 3) below p.
 pub fn bernoulli_numbers_exist_once()
     ensures exist { λ _. ⌜ Bernoulli-exist ⌝ }
