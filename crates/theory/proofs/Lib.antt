@@ -11,5 +11,4 @@ pub mod Multipliers
 pub mod OrderOfTwo
 pub mod DirectSum
 pub mod DoublingSum
-pub mod Digits
 pub mod Theorems

@@ -1,8 +1,8 @@
 -- Remainders modulo p, as code computes them: what the crates above cite.
 -- Main statements: mul-mod, pow-mod; minus-under, minus-back, minus-unique, minus-of-le, minus-of-lt, mul-minus;
 -- signed-under, mul-signed; sum-mod; the sums of both kinds one term further (direct-sum-step, doubling-sum-step),
--- and their points and weights (direct-point-step, direct-weight-step, doubling-point-place, doubling-point-row,
--- doubling-weight-place, doubling-weight-row).
+-- and their points and weights (direct-point-step, direct-weight-step, doubling-point-places, doubling-point-row,
+-- doubling-weight-places, doubling-weight-row).
 use mathlib.Core.Path.{_≡_, refl, ap, ap₂, sym, _∙_}
 use Prim.Native.Nat.{ℕ, zero, suc, _+_, _-_, _*_, _/_, _%_, _^_, _≤_, _<_}
 use native.Mathlib.Nat.{mod-lt, mod-mod, zero-mod, mod-add-mod, pow-zero, pow-suc, pow-succ', zero-mul, mul-zero}
@@ -224,12 +224,15 @@ pub doubling-point-first : (p g : ℕ) → doubling-point p g 0 0 ≡ 1 % p
 unfolding doubling-point
 doubling-point-first p g = ap (λ (n : ℕ). n * 1 % p) (pow-zero g)
 
--- one place further in a row
-pub doubling-point-place : (p g i j : ℕ) → doubling-point p g i (j + 1) ≡ 2 * doubling-point p g i j % p
+-- u places further in a row, and one place further
+pub doubling-point-places : (p g i j u : ℕ) → doubling-point p g i (j + u) ≡ 2 ^ u * doubling-point p g i j % p
 unfolding doubling-point
-doubling-point-place p g i j =
-    ap (λ (n : ℕ). n % p) (ap (λ (n : ℕ). g ^ i * 2 ^ n) (add-one j) ∙ omega (arith, ap (λ (n : ℕ). g ^ i * n) (pow-succ' 2 j)))
-    ∙ sym (mul-mod-right 2 (g ^ i * 2 ^ j) p)
+doubling-point-places p g i j u =
+    ap (λ (n : ℕ). n % p) (ap (λ (n : ℕ). g ^ i * n) (pow-add 2 j u) ∙ omega arith)
+    ∙ sym (mul-mod-right (2 ^ u) (g ^ i * 2 ^ j) p)
+
+pub doubling-point-place : (p g i j : ℕ) → doubling-point p g i (j + 1) ≡ 2 * doubling-point p g i j % p
+doubling-point-place p g i j = doubling-point-places p g i j 1
 
 -- one row further at the same place
 pub doubling-point-row : (p g i j : ℕ) → doubling-point p g (i + 1) j ≡ g * doubling-point p g i j % p
@@ -248,15 +251,20 @@ pub doubling-weight-first : (p g k : ℕ) → doubling-weight p g k 0 0 ≡ 1 % 
 unfolding doubling-weight
 doubling-weight-first p g k = ap (λ (n : ℕ). n % p) (ap₂ _*_ (pow-zero (g ^ (k - 1))) (pow-zero (2 ^ (k - 1))))
 
-pub doubling-weight-place
-    : (p g k i j : ℕ) → doubling-weight p g k i (j + 1) ≡ doubling-weight p g k i j * (2 ^ (k - 1) % p) % p
+pub doubling-weight-places
+    : (p g k i j u : ℕ)
+    → doubling-weight p g k i (j + u) ≡ doubling-weight p g k i j * ((2 ^ (k - 1)) ^ u % p) % p
 unfolding doubling-weight
-doubling-weight-place p g k i j =
+doubling-weight-places p g k i j u =
     ap
     (λ (n : ℕ). n % p)
-    (ap (λ (n : ℕ). (g ^ (k - 1)) ^ i * (2 ^ (k - 1)) ^ n) (add-one j)
-    ∙ omega (arith, ap (λ (n : ℕ). (g ^ (k - 1)) ^ i * n) (pow-suc (2 ^ (k - 1)) j)))
-    ∙ sym (mul-mod ((g ^ (k - 1)) ^ i * (2 ^ (k - 1)) ^ j) (2 ^ (k - 1)) p)
+    (ap (λ (n : ℕ). (g ^ (k - 1)) ^ i * n) (pow-add (2 ^ (k - 1)) j u) ∙ omega arith)
+    ∙ sym (mul-mod ((g ^ (k - 1)) ^ i * (2 ^ (k - 1)) ^ j) ((2 ^ (k - 1)) ^ u) p)
+
+pub doubling-weight-place
+    : (p g k i j : ℕ) → doubling-weight p g k i (j + 1) ≡ doubling-weight p g k i j * (2 ^ (k - 1) % p) % p
+doubling-weight-place p g k i j =
+    doubling-weight-places p g k i j 1 ∙ ap (λ (n : ℕ). doubling-weight p g k i j * (n % p) % p) (pow-one (2 ^ (k - 1)))
 
 pub doubling-weight-row
     : (p g k i j : ℕ) → doubling-weight p g k (i + 1) j ≡ doubling-weight p g k i j * (g ^ (k - 1) % p) % p

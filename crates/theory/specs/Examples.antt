@@ -4,8 +4,10 @@ use mathlib.Core.Bool.{Bool, true, false, not, _&&_, _||_, Bool·beq}
 use mathlib.Core.List.{List, [], _∷_}
 use Prim.Native.Nat.{ℕ, zero, suc, _-_, _*_, _/_, _%_, _^_}
 use lib.Dec.{eqb, leb}
+use Rattle.theory.specs.declared.kind.Kind.the-variants.{Doubling}
 use Rattle.theory.specs.Direct.{direct-result}
 use Rattle.theory.specs.Doubling.{row-length, row-count, doubling-sum, doubling-result}
+use Rattle.theory.specs.Kinds.{can-run}
 
 -- a pair with an index, and what is expected of it
 pub record Worked : Type 0 where
@@ -77,10 +79,6 @@ fit-test p g k =
 abbrev pub sound-test : ℕ → ℕ → Bool
 sound-test p g = every-below (λ x. some-below (λ i. eqb (g ^ suc i % p) (suc x)) (p - 1)) (p - 1)
 
--- doubling is usable
-abbrev pub usable-test : ℕ → ℕ → Bool
-usable-test p k = eqb ((p - 1) % (2 * row-length p)) 0 && not (eqb (2 ^ k % p) 1)
-
 -- a worked pair is fit, and the definitions give what it says
 abbrev pub worked-test : Worked → Bool
 worked-test w =
@@ -90,7 +88,7 @@ worked-test w =
     fit-test p g k
     && Bool·beq (sound-test p g) (w .sound)
     && eqb (direct-result p g k) (w .result)
-    && Bool·beq (usable-test p k) (w .usable)
+    && Bool·beq (can-run Doubling p k) (w .usable)
     && (not (w .usable) || eqb (doubling-result p g k) (w .result))
     && eqb (row-length p) (w .places)
     && eqb (row-count p) (w .rows)
