@@ -8,7 +8,8 @@ use Prim.Native.Nat.{ℕ, zero, suc, _+_, _*_, _≤_, _<_}
 use native.Mathlib.Nat.{lt-suc-self, le-step, lt-irrefl, zero-mul, one-mul, mul-one, le-of-eq}
 use native.Mathlib.Decide.{ℕ-discrete}
 use native.Mathlib.Omega.{arith}
-use lib.Dec.{eqb, eqb→eq, eqb-refl, T}
+use lib.Dec.{eqb}
+use borrow.Author.Tests.{eq-eqb, apart-eqb}
 use Rattle.theory.specs.Sums.{sum}
 use Rattle.theory.proofs.Sums.{last-or-below, sum-zero, sum-suc, sum-ext, sum-add, sum-nought, sum-squeeze}
 
@@ -34,19 +35,11 @@ same a b = bit (eqb a b)
 
 same-eq : (a b : ℕ) → a ≡ b → same a b ≡ 1
 unfolding same
-same-eq a b e = passed (eqb a b) (subst (λ (z : ℕ). T (eqb a z)) e (eqb-refl a))
-  where
-    passed : (t : Bool) → T t → bit t ≡ 1
-    passed true h = refl
-    passed false h = absurd h
+same-eq a b e = ap bit (eq-eqb a b e)
 
 same-apart : (a b : ℕ) → a ≢ b → same a b ≡ 0
 unfolding same
-same-apart a b ne = failed (eqb a b) (λ h. ne (eqb→eq a b h))
-  where
-    failed : (t : Bool) → (T t → ⊥) → bit t ≡ 0
-    failed true h = absurd (h tt)
-    failed false h = refl
+same-apart a b ne = ap bit (apart-eqb a b ne)
 
 -- how often s meets y in its first n values
 hits : ℕ → (ℕ → ℕ) → ℕ → ℕ

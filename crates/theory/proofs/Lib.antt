@@ -12,3 +12,4 @@ pub mod OrderOfTwo
 pub mod DirectSum
 pub mod DoublingSum
 pub mod Theorems
+pub mod EitherKind

@@ -10,18 +10,12 @@ use native.Mathlib.Nat.{mod-lt, mod-eq-of-lt, mod-eq-sub-mod, mod-add-div, mul-o
 use native.Mathlib.Decide.{decLt}
 use native.Mathlib.Omega.{arith}
 use lib.Pow.{pow-add}
-use lib.Dec.{eqb, eqb→eq, eqb-refl, T}
+use lib.Dec.{eqb}
+use borrow.Author.Tests.{eqb-true, eqb-apart}
 use Rattle.theory.specs.Doubling.{Order, first-one, order, row-length}
 use Rattle.theory.proofs.Powers.{one-pow, pow-mul}
 use Rattle.theory.proofs.Congruence.{Cong, cong-sym, cong-trans, eq-cong, cong-eq, cong-mul-left, cong-pow, mod-cong, mod-one-cong, cong-mod-one, cong-divide, unit-pow, unit-not-zero}
 use Rattle.theory.proofs.Counting.{OneToOne, one-to-one-meets}
-
--- a test that passes, and one that fails
-passed : (a b : ℕ) → eqb a b ≡ true → a ≡ b
-passed a b e = eqb→eq a b (subst T (sym e) tt)
-
-failed : (a b : ℕ) → eqb a b ≡ false → a ≢ b
-failed a b e d = subst T e (subst (λ (z : ℕ). T (eqb a z)) d (eqb-refl a))
 
 -- r is the first number from lo on, and it lies below hi, with 2^r leaving 1
 record First (p lo hi r : ℕ) : Type 0 where
@@ -53,7 +47,7 @@ first-one-is p (suc steps) n = at (first-one-is p steps (suc n)) (eqb (2 ^ n % p
         record {
           from = omega arith;
           below = omega arith;
-          one = passed (2 ^ n % p) 1 e;
+          one = eqb-true (2 ^ n % p) 1 e;
           none-before = λ m a b _. omega arith;
         }
     at (inl f) false e =
@@ -62,10 +56,10 @@ first-one-is p (suc steps) n = at (first-one-is p steps (suc n)) (eqb (2 ^ n % p
           from = omega (arith, f .from);
           below = omega (arith, f .below);
           one = f .one;
-          none-before = none-more p n (first-one p steps (suc n)) (failed (2 ^ n % p) 1 e) (f .none-before);
+          none-before = none-more p n (first-one p steps (suc n)) (eqb-apart (2 ^ n % p) 1 e) (f .none-before);
         }
     at (inr none) false e =
-        inr (none-more p n (n + suc steps) (failed (2 ^ n % p) 1 e) (λ m a b. none m a (omega arith)))
+        inr (none-more p n (n + suc steps) (eqb-apart (2 ^ n % p) 1 e) (λ m a b. none m a (omega arith)))
 
 -- the order of 2: least, so one; and it divides each e with 2^e leaving 1
 
@@ -163,8 +157,8 @@ module _ (p h : ℕ) (odd : p ≡ suc (h + h)) (some : 0 < h) where
           → eqb (order p % 2) 0 ≡ t
           → (order p ≡ cond t (order p / 2) (order p) + cond t (order p / 2) (order p))
           ⊎ ((order p ≡ cond t (order p / 2) (order p)) × (order p % 2 ≡ 1))
-      at true e = inl (omega (arith, passed (order p % 2) 0 e))
-      at false e = inr (refl, omega (arith, failed (order p % 2) 0 e))
+      at true e = inl (omega (arith, eqb-true (order p % 2) 0 e))
+      at false e = inr (refl, omega (arith, eqb-apart (order p % 2) 0 e))
 
   pub row-length-positive : 0 < row-length p
   row-length-positive = elim row-length-is [ inl e ↦ omega (arith, e, order-is .positive) | inr e ↦ omega (arith, e .0, order-is .positive) ]
