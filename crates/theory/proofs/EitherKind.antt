@@ -14,7 +14,7 @@ use Rattle.theory.specs.Kinds.{run-result, can-run}
 use Rattle.theory.proofs.Theorems.{direct-gives-bernoulli, doubling-gives-bernoulli}
 
 -- two tests that both pass
-both : (s t : Bool) → s && t ≡ true → (s ≡ true) × (t ≡ true)
+pub both : (s t : Bool) → s && t ≡ true → (s ≡ true) × (t ≡ true)
 both true t e = (refl, e)
 both false t e = absurd (clash e)
 

@@ -13,3 +13,4 @@ pub mod DirectSum
 pub mod DoublingSum
 pub mod Theorems
 pub mod EitherKind
+pub mod ExampleTests

@@ -1,13 +1,16 @@
 -- Worked pairs: small numbers at which the definitions are computed.
 -- Assumes nothing.
 use mathlib.Core.Bool.{Bool, true, false, not, _&&_, _||_, Bool·beq}
+use mathlib.Core.Logic.{_↔_}
+use mathlib.Core.Path.{_≡_}
 use mathlib.Core.List.{List, [], _∷_}
 use Prim.Native.Nat.{ℕ, zero, suc, _-_, _*_, _/_, _%_, _^_}
 use lib.Dec.{eqb, leb}
 use Rattle.theory.specs.declared.kind.Kind.the-variants.{Doubling}
 use Rattle.theory.specs.Direct.{direct-result}
-use Rattle.theory.specs.Doubling.{row-length, row-count, doubling-sum, doubling-result}
+use Rattle.theory.specs.Doubling.{row-length, row-count, Usable, doubling-sum, doubling-result}
 use Rattle.theory.specs.Kinds.{can-run}
+use Rattle.theory.specs.Pairs.{Fit, Sound}
 
 -- a pair with an index, and what is expected of it
 pub record Worked : Type 0 where
@@ -101,3 +104,12 @@ eight-digits p x = 256 * x / p
 -- every worked pair holds, and the group of 3 by 17 is 45 with the remainder 3
 abbrev pub examples-test : Bool
 examples-test = all worked-test worked-pairs && eqb (eight-digits 17 3) 45 && eqb (256 * 3 % 17) 3
+
+-- the tests say what they stand for
+abbrev pub Tests-told : Type 0
+Tests-told =
+    (p g k : ℕ)
+    → (fit-test p g k ≡ true → Fit k p g)
+    × (sound-test p g ≡ true → Sound p g)
+    × (sound-test p g ≡ false → ¬ Sound p g)
+    × ((can-run Doubling p k ≡ true) ↔ Usable p k)

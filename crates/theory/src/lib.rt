@@ -2,7 +2,7 @@
 // contract is a theorem about them, so that the crate is not proved without the theorem's proof.
 ghost use mathlib.Core.Bool.{true};
 ghost use mathlib.Core.Path.{_≡_};
-ghost use Rattle.theory.specs.Examples.{examples-test};
+ghost use Rattle.theory.specs.Examples.{examples-test, Tests-told};
 ghost use Rattle.theory.specs.Theorems.{Bernoulli-exist, Bernoulli-unique, Power-sums-give-bernoulli, Direct-gives-bernoulli};
 ghost use Rattle.theory.specs.Theorems.{Doubling-gives-bernoulli, Sound-rows-fit, Order-computed, Rows-fit, Order-least-divisor};
 
@@ -46,4 +46,5 @@ pub fn order_of_two_is_computed()
 // The definitions give what is known of some small pairs.
 pub fn worked_pairs_hold()
     ensures computed { λ _. ⌜ examples-test ≡ true ⌝ }
+    ensures told { λ _. ⌜ Tests-told ⌝ }
 {}
