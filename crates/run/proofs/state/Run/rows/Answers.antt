@@ -1,0 +1,22 @@
+use mathlib.Core.Path.{_≡_, refl, ap, _∙_}
+use Prim.Native.Nat.{ℕ, _-_, _%_, _^_}
+use Rattle.theory.proofs.Modular.{pow-mod}
+use Rattle.run.proofs.state.Run.rows.Needs as need
+
+-- a power of a number that is brought in, in a modulus m that is p
+brought-power : (m p a n x y : ℕ) → m ≡ p → x ≡ a % m → y ≡ x ^ n % m → y ≡ a ^ n % p
+brought-power m p a n x y same base power =
+    power ∙ ap (λ (i : ℕ). i ^ n % m) base ∙ pow-mod a n m ∙ ap (λ (i : ℕ). a ^ n % i) same
+
+pub returns : need.returns
+returns g c =
+    let run = c .args .self .now in
+    record {
+      rows = record {
+        length-is = c .pre .length;
+        factor-is = c .new .ensures .factor;
+        modulus-is = c .new .ensures .modulus;
+        stride-is = brought-power _ (run .modulus) (run .generator) (run .index - 1) _ _ (c .pre .same) (c .bring-in .ensures .value) (c .raise .ensures .value);
+        ratio-is = brought-power _ (run .modulus) 2 (run .index - 1) _ _ (c .pre .same) (c .bring-in-2 .ensures .value) (c .raise-2 .ensures .value);
+      };
+    }

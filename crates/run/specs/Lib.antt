@@ -1,0 +1,5 @@
+pub mod Places
+pub mod Stretches
+pub mod Walks
+pub mod Calls
+pub mod Finishing

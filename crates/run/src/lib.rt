@@ -1,0 +1,21 @@
+// Runs: the terms of a sum, taken in shares with any arithmetic, and the residue that a whole run gives.
+mod carry;
+mod direct;
+mod doubling;
+mod finish;
+mod finished;
+mod multiplier;
+mod open;
+mod order;
+mod progress;
+mod result;
+mod rows;
+mod singly;
+mod state;
+mod stretch;
+mod tell;
+mod walk;
+
+pub use carry::LARGEST_SHARE;
+pub use finished::FinishedResidue;
+pub use state::Run;
