@@ -1,8 +1,10 @@
+pub mod GroupTerms
 pub mod DirectTerms
 pub mod Divisors
 pub mod Opening
 pub mod Quotients
 pub mod Results
 pub mod RowTerms
+pub mod Signs
 pub mod StretchTerms
 pub mod WalkSteps

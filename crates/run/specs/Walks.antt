@@ -13,6 +13,8 @@ pub record RowsOf {E : Type 0} (residue : E → ℕ) (p g k : ℕ) (rows : Rows 
   pub modulus-is : rows .generator .modulus ≡ p
   pub stride-is : residue (rows .stride) ≡ g ^ (k - 1) % p
   pub ratio-is : residue (rows .ratio) ≡ 2 ^ (k - 1) % p
+  pub eighth-is : residue (rows .eighth) ≡ residue (rows .ratio) ^ 8 % p
+  pub sixteenth-is : residue (rows .sixteenth) ≡ residue (rows .eighth) * residue (rows .eighth) % p
 
 -- the walk stands in row i; where its place is the length of the row, the row is at its end
 pub record InRow {E : Type 0} (residue : E → ℕ) (p g k i : ℕ) (walk : Walk E) : Type 0 where

@@ -1,9 +1,14 @@
 // Runs: the terms of a sum, taken in shares with any arithmetic, and the residue that a whole run gives.
 mod carry;
+mod cells;
+mod count;
+mod counted;
 mod direct;
 mod doubling;
 mod finish;
 mod finished;
+mod gather;
+mod groups;
 mod multiplier;
 mod open;
 mod order;

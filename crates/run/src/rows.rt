@@ -13,6 +13,9 @@ pub struct Rows<E> {
     pub stride: E,
     // from a weight to the next in its row
     pub ratio: E,
+    // from the weight of a group to that of the next group, and of the one after that
+    pub eighth: E,
+    pub sixteenth: E,
 }
 
 // Where the share stands.

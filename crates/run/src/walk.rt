@@ -25,11 +25,15 @@ impl Run {
         ensures rows { λ r. ⌜ RowsOf (residue (now (arithmetic .entry))) (now (self .entry) .modulus) (now (self .entry) .generator) (now (self .entry) .index) r ⌝ }
     {
         let exponent = self.index - 1;
+        let ratio = raise(arithmetic, arithmetic.bring_in(2), exponent);
+        let eighth = raise(arithmetic, ratio, 8);
         Rows {
             row_length,
             generator: Multiplier::new(self.generator, self.modulus),
             stride: raise(arithmetic, arithmetic.bring_in(self.generator), exponent),
-            ratio: raise(arithmetic, arithmetic.bring_in(2), exponent),
+            ratio,
+            eighth,
+            sixteenth: arithmetic.mul(eighth, eighth),
         }
     }
 }

@@ -11,6 +11,6 @@ returns c =
       value = refl;
       result = f .result;
       bernoulli = λ sound.
-        subst (λ (r : ℕ). BernoulliMod (f .modulus) (f .index) r) (sym (f .result))
-        (run-gives-bernoulli (f .kind) (f .index) (f .modulus) (f .generator) (f .fit) sound (f .usable));
+          subst (λ (r : ℕ). BernoulliMod (f .modulus) (f .index) r) (sym (f .result))
+          (run-gives-bernoulli (f .kind) (f .index) (f .modulus) (f .generator) (f .fit) sound (f .usable));
     }
