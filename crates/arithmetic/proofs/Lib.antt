@@ -1,4 +1,5 @@
 pub mod Squaring
+pub mod Differences
 pub mod Newton
 pub mod Halving
 pub mod Signed

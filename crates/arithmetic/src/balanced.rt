@@ -1,6 +1,6 @@
 // The balanced arithmetic: an element is a signed number from −(p − 1)/2 to (p − 1)/2.
 ghost use mathlib.Core.Path.{_≡_};
-ghost use Prim.Native.Nat.{ℕ, _+_, _*_, _%_};
+ghost use Prim.Native.Nat.{_+_, _*_, _%_};
 ghost use Rattle.arithmetic.specs.Made.{Made};
 ghost use Rattle.arithmetic.specs.Words.{remainder, Within-half};
 ghost use Rattle.theory.specs.Pairs.{FitModulus};

@@ -1,6 +1,6 @@
 // What all sources keep: their modulus, and the groups handed out.
 ghost use mathlib.Core.Path.{_≡_};
-ghost use Prim.Native.Nat.{ℕ, _+_, _^_, _<_};
+ghost use Prim.Native.Nat.{_+_, _^_, _<_};
 ghost use Rattle.arithmetic.specs.Made.{Made};
 ghost use Rattle.digits.specs.Counts.{capped, Handed};
 ghost use Rattle.theory.specs.Pairs.{FitModulus};
