@@ -2,12 +2,13 @@
 -- Main statements: halved-of, halved-sum, halved-difference, halved-product, reduced-word, reduced-below, reduced-above, brought-word.
 -- Assumes nothing.
 use mathlib.Core.Path.{_≡_, refl, sym, ap, _∙_}
-use Prim.Native.Nat.{ℕ, zero, suc, _+_, _-_, _*_, _/_, _%_, _^_, _<_, _≤_}
-use native.Mathlib.Nat.{add-mul-mod-self-left, add-mod-left, add-mod, mod-add-mod, mod-add-div, mod-lt, mod-mod, mod-eq-of-lt, mul-assoc, mul-one, pow-suc, pow-zero, div-lt-iff-lt-mul, mul-lt-mul-of-pos-right, mul-le-mul-left, add-mod-mod, add-assoc, add-zero}
+use Prim.Native.Nat.{ℕ, zero, suc, _+_, _*_, _/_, _%_, _^_, _<_}
+use native.Mathlib.Nat.{add-mul-mod-self-left, add-mod-left, add-mod, mod-add-div, mod-lt, mod-mod, mod-eq-of-lt, mul-assoc, mul-one, pow-suc, pow-zero, div-lt-iff-lt-mul, mul-lt-mul-of-pos-right, mul-le-mul-left}
 use native.Mathlib.Omega.{arith}
 use Rattle.theory.specs.Residues.{minus}
 use Rattle.theory.proofs.Modular.{mul-mod, mul-mod-left, mul-mod-right, pow-mod, mul-pow}
 use Rattle.arithmetic.specs.Words.{halved}
+use Rattle.arithmetic.proofs.Differences.{minus-of-sum}
 
 one-pow : (n : ℕ) → 1 ^ n ≡ 1
 one-pow zero = pow-zero 1
@@ -47,17 +48,6 @@ halved-sum p r a b same =
     let h = ((p + 1) / 2) ^ 32 in
     let spread : (a + b) * h ≡ a * h + b * h = omega arith in
     halved-mod p r (a + b) same ∙ ap (λ (y : ℕ). y % p) spread ∙ add-mod (a * h) (b * h) p
-
--- what with b gives a is a − b
-pub minus-of-sum : (p r a b : ℕ) → 0 < p → r < p → (r + b) % p ≡ a % p → r ≡ minus p a b
-minus-of-sum p r a b positive under same =
-    let rest : b % p < p = mod-lt b positive in
-    let whole : r + b + (p - b % p) ≡ r + p * (b / p + 1) = omega (arith, mod-add-div b p) in
-    sym (ap (λ (y : ℕ). (y + (p - b % p)) % p) (sym same)
-    ∙ mod-add-mod (r + b) p (p - b % p)
-    ∙ ap (λ (y : ℕ). y % p) whole
-    ∙ add-mul-mod-self-left r p (b / p + 1)
-    ∙ mod-eq-of-lt under)
 
 pub halved-difference : (p r a b : ℕ) → 0 < p → (r + b) % p ≡ a % p → halved p r ≡ minus p (halved p a) (halved p b)
 halved-difference p r a b positive same =
@@ -124,14 +114,3 @@ brought-word p n square r odd squared reduced under =
 
 pub brought-residue : (p n r : ℕ) → p % 2 ≡ 1 → r ≡ n * 2 ^ 32 % p → halved p r ≡ n % p
 brought-residue p n r odd word = halved-of p n r odd (sym (mod-mod (n * 2 ^ 32) p) ∙ ap (λ (y : ℕ). y % p) (sym word))
-
--- with its opposite a word is gone
-pub with-opposite : (p r a b o : ℕ) → r % p ≡ (a + o) % p → (o + b) % p ≡ 0 → (r + b) % p ≡ a % p
-with-opposite p r a b o same gone =
-    sym (mod-add-mod r p b)
-    ∙ ap (λ (y : ℕ). (y + b) % p) same
-    ∙ mod-add-mod (a + o) p b
-    ∙ ap (λ (y : ℕ). y % p) (add-assoc a o b)
-    ∙ sym (add-mod-mod a (o + b) p)
-    ∙ ap (λ (y : ℕ). (a + y) % p) gone
-    ∙ ap (λ (y : ℕ). y % p) (add-zero a)

@@ -2,19 +2,19 @@
 -- Main statements: remainder-of, remainder-sum, remainder-difference, remainder-product.
 -- Assumes nothing.
 use mathlib.Core.Path.{_≡_, refl, sym, ap, _∙_}
-use Prim.Native.Nat.{ℕ, zero, suc, _+_, _-_, _*_, _/_, _%_, _^_, _<_, _≤_}
-use native.Mathlib.Nat.{add-mul-mod-self-left, mod-add-div, mod-lt, mod-mod, mod-eq-of-lt, add-mod, div-le-self, mul-le-mul}
+use Prim.Native.Nat.{ℕ, suc, _+_, _-_, _*_, _/_, _%_, _^_, _<_, _≤_}
+use native.Mathlib.Nat.{add-mul-mod-self-left, mod-add-div, mod-lt, mod-eq-of-lt, add-mod, div-le-self, mul-le-mul}
 use native.Mathlib.Omega.{arith}
-use lib.IntN.{ℤ, pos, negsuc, _+ℤ_, _*ℤ_}
-use borrow.Author.Differences.{up, down, sum-is, product-is, ints}
+use lib.IntN.{ℤ, pos, negsuc, negℤ, _+ℤ_, _*ℤ_}
+use borrow.Author.Differences.{up, down, sum-is, neg-is, product-is, at-most-in, ints}
 use mir.Syntax.{w32, w64}
 use mir.Val.{SFits, ofZ, toZ}
 use Rattle.std.specs.Numbers.{remEuclid}
 use Rattle.std.proofs.shelf.Signed.{toZ-ofZ, toZ-pos}
 use Rattle.theory.specs.Residues.{minus}
 use Rattle.theory.proofs.Modular.{mul-mod}
-use Rattle.arithmetic.specs.Words.{remainder}
-use Rattle.arithmetic.proofs.Halving.{minus-of-sum}
+use Rattle.arithmetic.specs.Words.{remainder, Within-half}
+use Rattle.arithmetic.proofs.Differences.{minus-of-sum}
 
 -- p − 1 stands for −1
 negative-mod : (p n : ℕ) → 0 < p → (p - 1) * suc n % p ≡ p - 1 - n % p
@@ -123,3 +123,10 @@ product-words a b left right =
     ap (λ (z : ℤ). toZ w64 (ofZ w64 (z *ℤ toZ w64 (ofZ w64 (toZ w32 (ofZ w32 b)))))) (widened a left)
     ∙ ap (λ (z : ℤ). toZ w64 (ofZ w64 (a *ℤ z))) (widened b right)
     ∙ toZ-ofZ w64 (a *ℤ b) (product-fits a b left right)
+
+-- a word is balanced where it is at most (p − 1)/2 either way
+pub within-half : (p : ℕ) (z : ℤ) → down z ≤ up z + (p - 1) / 2 → up z ≤ down z + (p - 1) / 2 → Within-half p z
+within-half p z low high = (
+  at-most-in (negℤ (pos ((p - 1) / 2))) z (omega (arith, neg-is (pos ((p - 1) / 2)))),
+  at-most-in z (pos ((p - 1) / 2)) (omega arith),
+)

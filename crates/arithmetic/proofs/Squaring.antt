@@ -3,7 +3,7 @@
 -- Assumes nothing.
 use mathlib.Core.Path.{_≡_, sym, ap, _∙_}
 use Prim.Native.Nat.{ℕ, suc, _+_, _*_, _/_, _%_, _^_, _<_}
-use native.Mathlib.Nat.{one-mul, mul-one, mul-assoc, pow-suc, pow-zero, mod-eq-of-lt}
+use native.Mathlib.Nat.{one-mul, mul-one, pow-suc, pow-zero, mod-eq-of-lt}
 use native.Mathlib.Omega.{arith}
 use lib.Pow.{pow-add}
 use Rattle.theory.proofs.Modular.{mul-mod-left, mul-mod-right, pow-mod, mul-pow}

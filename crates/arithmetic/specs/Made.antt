@@ -12,3 +12,8 @@ use Rattle.arithmetic.specs.declared.refusal.Refusal.the-variants.{Modulus}
 abbrev pub Made : {X : Type 0} → ℕ → (X → ℕ) → Result X Refusal → Type 0
 Made p modulus-of (Ok x) = FitModulus p × (modulus-of x ≡ p)
 Made p modulus-of (Err e) = (FitModulus p → ⊥) × (e ≡ Modulus)
+
+-- the number p was tried as a modulus: it is fit for one, or the refusal says that it is not
+abbrev pub Tried : {X : Type 0} → ℕ → Result X Refusal → Type 0
+Tried p (Ok x) = FitModulus p
+Tried p (Err e) = (FitModulus p → ⊥) × (e ≡ Modulus)

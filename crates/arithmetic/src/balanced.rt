@@ -1,10 +1,11 @@
 // The balanced arithmetic: an element is a signed number from −(p − 1)/2 to (p − 1)/2.
 ghost use mathlib.Core.Path.{_≡_};
-ghost use Prim.Native.Nat.{ℕ, _+_, _*_, _%_};
+ghost use Prim.Native.Nat.{_+_, _*_, _%_};
 ghost use Rattle.arithmetic.specs.Made.{Made};
 ghost use Rattle.arithmetic.specs.Words.{remainder, Within-half};
 ghost use Rattle.theory.specs.Pairs.{FitModulus};
 ghost use Rattle.theory.specs.Residues.{minus};
+use crate::modulus::try_modulus;
 use crate::refusal::Refusal;
 use crate::traits::Arithmetic;
 
@@ -22,9 +23,7 @@ impl Balanced {
     pub fn new(modulus: u32) -> Result<Balanced, Refusal>
         ensures made { λ r. ⌜ Made modulus (λ a. a .modulus) r ⌝ }
     {
-        if modulus % 2 == 0 || modulus < 5 || modulus > 2147483647 {
-            return Err(Refusal::Modulus);
-        }
+        try_modulus(modulus)?;
         Ok(Balanced { modulus })
     }
 

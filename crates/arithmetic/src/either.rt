@@ -1,10 +1,9 @@
 // One of two things that serve the same end, chosen when the program runs: as an arithmetic, one of two arithmetics.
 ghost use mathlib.Core.Path.{_≡_};
-ghost use Prim.Native.Nat.{ℕ};
 ghost use Rattle.arithmetic.specs.Sides.{of-either, residue-on-left, residue-on-right, residue-of};
 use crate::traits::Arithmetic;
 
-#[derive(Clone, Copy, Drop)]
+#[derive(Drop)]
 pub enum Either<L, R> {
     Left(L),
     Right(R),

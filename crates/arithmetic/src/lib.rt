@@ -1,6 +1,7 @@
 // Arithmetics modulo p and what they have in common, and the refusals of every call.
 mod balanced;
 mod either;
+mod modulus;
 mod montgomery;
 mod plain;
 mod power;
@@ -13,6 +14,7 @@ pub use balanced::BalancedElement;
 pub use either::Either;
 pub use either::EitherArithmetic;
 pub use either::EitherElement;
+pub use modulus::try_modulus;
 pub use montgomery::Montgomery;
 pub use montgomery::MontgomeryArithmetic;
 pub use montgomery::MontgomeryElement;

@@ -5,6 +5,7 @@ ghost use Rattle.arithmetic.specs.Made.{Made};
 ghost use Rattle.arithmetic.specs.Words.{halved};
 ghost use Rattle.theory.specs.Pairs.{FitModulus};
 ghost use Rattle.theory.specs.Residues.{minus};
+use crate::modulus::try_modulus;
 use crate::refusal::Refusal;
 use crate::traits::Arithmetic;
 
@@ -43,9 +44,7 @@ impl Montgomery {
     pub fn new(modulus: u32) -> Result<Montgomery, Refusal>
         ensures made { λ r. ⌜ Made modulus (λ a. a .modulus) r ⌝ }
     {
-        if modulus % 2 == 0 || modulus < 5 || modulus > 2147483647 {
-            return Err(Refusal::Modulus);
-        }
+        try_modulus(modulus)?;
         let reciprocal = reciprocal_of(modulus);
         let one = 4294967296u64 % modulus as u64;
         let square = (one * one % modulus as u64) as u32;
@@ -90,11 +89,8 @@ impl Montgomery {
     fn opposite(&self, word: u32) -> u32
         ensures value { λ r. ⌜ (r + word) % now (self .entry) .modulus ≡ 0 ⌝ }
     {
-        if word < self.modulus {
-            self.modulus - word
-        } else {
-            self.modulus - word % self.modulus
-        }
+        let p = self.modulus;
+        if word < p { p - word } else { p - word % p }
     }
 }
 

@@ -4,6 +4,7 @@ ghost use Prim.Native.Nat.{ℕ, _+_, _*_, _%_, _<_};
 ghost use Rattle.arithmetic.specs.Made.{Made};
 ghost use Rattle.theory.specs.Pairs.{FitModulus};
 ghost use Rattle.theory.specs.Residues.{minus};
+use crate::modulus::try_modulus;
 use crate::refusal::Refusal;
 use crate::traits::Arithmetic;
 
@@ -21,9 +22,7 @@ impl Plain {
     pub fn new(modulus: u32) -> Result<Plain, Refusal>
         ensures made { λ r. ⌜ Made modulus (λ a. a .modulus) r ⌝ }
     {
-        if modulus % 2 == 0 || modulus < 5 || modulus > 2147483647 {
-            return Err(Refusal::Modulus);
-        }
+        try_modulus(modulus)?;
         Ok(Plain { modulus })
     }
 }

@@ -1,5 +1,4 @@
 // The three digit sources, alone and chosen at run time.
-ghost use Prim.Native.Nat.{_<_};
 use crate::moduli::COMPOSITES;
 use crate::moduli::PRIMES;
 use crate::moduli::numbers;

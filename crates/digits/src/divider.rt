@@ -1,6 +1,4 @@
 // The source that divides.
-ghost use mathlib.Core.Path.{_≡_};
-ghost use Prim.Native.Nat.{ℕ, _+_, _*_, _/_, _%_};
 ghost use Rattle.arithmetic.specs.Made.{Made};
 ghost use Rattle.digits.specs.Counts.{Handed};
 use crate::tally::Tally;

@@ -1,6 +1,4 @@
 // One of two sources, chosen when the program runs.
-ghost use mathlib.Core.Path.{_≡_};
-ghost use Prim.Native.Nat.{ℕ};
 ghost use Rattle.arithmetic.specs.Sides.{of-either};
 use crate::traits::DigitSource;
 use arithmetic::Either;

@@ -1,6 +1,6 @@
 // The source that multiplies by the reciprocal: a guess from the whole quotient of 2^62 by p, put right where it is one too small.
 ghost use mathlib.Core.Path.{_≡_};
-ghost use Prim.Native.Nat.{ℕ, _+_, _*_, _/_, _%_, _^_, _<_, _≤_};
+ghost use Prim.Native.Nat.{_*_, _/_, _%_, _^_, _<_};
 ghost use Rattle.arithmetic.specs.Made.{Made};
 ghost use Rattle.digits.specs.Counts.{Handed};
 ghost use Rattle.digits.specs.Guesses.{Near};

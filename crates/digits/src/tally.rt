@@ -1,10 +1,11 @@
 // What all sources keep: their modulus, and the groups handed out.
 ghost use mathlib.Core.Path.{_≡_};
-ghost use Prim.Native.Nat.{ℕ, _+_, _^_, _<_};
+ghost use Prim.Native.Nat.{_+_, _^_, _<_};
 ghost use Rattle.arithmetic.specs.Made.{Made};
 ghost use Rattle.digits.specs.Counts.{capped, Handed};
 ghost use Rattle.theory.specs.Pairs.{FitModulus};
 use arithmetic::Refusal;
+use arithmetic::try_modulus;
 
 #[derive(Drop)]
 pub struct Tally {
@@ -21,9 +22,7 @@ impl Tally {
         ensures made { λ r. ⌜ Made modulus (λ s. s .modulus) r ⌝ }
         ensures count { λ r. ⌜ Handed taken (λ s. s .taken) r ⌝ }
     {
-        if modulus % 2 == 0 || modulus < 5 || modulus > 2147483647 {
-            return Err(Refusal::Modulus);
-        }
+        try_modulus(modulus)?;
         Ok(Tally {
             modulus,
             taken: taken.min(MOST),

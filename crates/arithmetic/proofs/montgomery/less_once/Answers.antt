@@ -1,4 +1,4 @@
-use mathlib.Core.Path.{refl, sym}
+use mathlib.Core.Path.{sym}
 use native.Mathlib.Nat.{mod-eq-sub-mod}
 use native.Mathlib.Omega.{arith}
 use Rattle.arithmetic.proofs.montgomery.less_once.Needs as need

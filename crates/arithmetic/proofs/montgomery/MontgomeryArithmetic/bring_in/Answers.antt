@@ -1,6 +1,4 @@
-use mathlib.Core.Path.{_≡_, sym, ap, _∙_}
-use Prim.Native.Nat.{ℕ, _*_, _%_, _^_, _<_}
-use native.Mathlib.Nat.{mod-lt}
+use Prim.Native.Nat.{_<_}
 use native.Mathlib.Omega.{arith}
 use Rattle.arithmetic.proofs.Halving.{brought-word, brought-residue, brought-below}
 use Rattle.arithmetic.proofs.montgomery.MontgomeryArithmetic.bring_in.Needs as need

@@ -1,4 +1,3 @@
-use native.Mathlib.Nat.{mul-lt-mul-of-pos-right}
 use native.Mathlib.Omega.{arith}
 use Rattle.arithmetic.proofs.Halving.{halved-product, product-below}
 use Rattle.arithmetic.proofs.montgomery.MontgomeryArithmetic.mul.Needs as need

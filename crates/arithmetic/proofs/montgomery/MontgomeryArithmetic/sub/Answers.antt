@@ -1,5 +1,6 @@
 use native.Mathlib.Omega.{arith}
-use Rattle.arithmetic.proofs.Halving.{halved-difference, with-opposite}
+use Rattle.arithmetic.proofs.Differences.{with-opposite}
+use Rattle.arithmetic.proofs.Halving.{halved-difference}
 use Rattle.arithmetic.proofs.montgomery.MontgomeryArithmetic.sub.Needs as need
 
 pub returns : need.returns

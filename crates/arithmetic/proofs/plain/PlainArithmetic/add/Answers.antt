@@ -1,5 +1,5 @@
-use mathlib.Core.Path.{sym, _∙_}
-use Prim.Native.Nat.{_+_, _<_}
+use mathlib.Core.Path.{_∙_}
+use Prim.Native.Nat.{_+_}
 use native.Mathlib.Nat.{add-mod, mod-lt, mod-mod}
 use native.Mathlib.Omega.{arith}
 use Rattle.arithmetic.proofs.plain.PlainArithmetic.add.Needs as need

@@ -1,5 +1,5 @@
 use mathlib.Core.Path.{sym, _∙_}
-use Prim.Native.Nat.{ℕ, _+_, _-_, _%_}
+use Prim.Native.Nat.{_+_, _-_, _%_}
 use native.Mathlib.Nat.{mod-lt, mod-mod, mod-add-mod}
 use native.Mathlib.Omega.{arith}
 use Rattle.theory.proofs.Modular.{minus-mod}

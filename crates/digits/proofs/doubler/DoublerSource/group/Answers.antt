@@ -1,6 +1,6 @@
 use mathlib.Core.Path.{_≡_, ap, _∙_}
-use Prim.Native.Nat.{ℕ, _+_, _*_, _^_, _<_, _≤_}
-use native.Mathlib.Nat.{mul-le-mul-left, mul-le-mul-right, one-mul}
+use Prim.Native.Nat.{ℕ, _+_, _*_, _^_, _≤_}
+use native.Mathlib.Nat.{mul-le-mul-left, mul-le-mul-right}
 use native.Mathlib.Omega.{arith}
 use lib.Pow.{pow-add, pow-mono}
 use Rattle.digits.proofs.Digits.{whole-quotient, whole-remainder}
@@ -18,7 +18,7 @@ doubled-requires c κs =
     let p = c .args .self .now .tally .modulus in
     let q = c .loop-i .quotient in
     let x = c .start-quotient .result .0 * p + c .start-quotient .result .1 in
-    let few : 2 ^ c .loop-i .-i ≤ 2 ^ 8 = pow-mono (c .loop-i .kept .-i-end) in
+    let few : 2 ^ c .loop-i .-i ≤ 2 ^ 8 = pow-mono {i = c .loop-i .-i} {j = 8} (omega arith) in
     record {
       fits = omega (arith, c .args .self .now .tally .fit .2);
       below = c .loop-i .inv .1;
