@@ -58,11 +58,13 @@ fn worked_pairs() -> Result<(), Fail> {
     Ok(())
 }
 
-// modulus, generator, index, direct result and doubling result of pairs that are not sound: each kind has its own
-static NOT_SOUND: [(u32, u32, u32, u32, u32); 3] = [
+// modulus, generator, index, direct result and doubling result of pairs that are not sound: each kind has its own.
+// 1194649 is 1093², so the powers of 1093 come to the point 0.
+static NOT_SOUND: [(u32, u32, u32, u32, u32); 4] = [
     (7, 6, 2, 0, 6),
     (341, 2, 4, 283, 133),
     (561, 5, 6, 432, 39),
+    (1194649, 1093, 2, 1192463, 178943),
 ];
 
 #[test]

@@ -70,7 +70,7 @@ fn beside_single_terms(
 }
 
 // kind, modulus, generator, index: rows of odd and of even length, one row and several, sound pairs and others
-static RUNS: [(Kind, u32, u32, u32); 14] = [
+static RUNS: [(Kind, u32, u32, u32); 15] = [
     (Kind::Direct, 5, 2, 2),
     (Kind::Doubling, 5, 2, 2),
     (Kind::Direct, 17, 3, 8),
@@ -80,6 +80,7 @@ static RUNS: [(Kind, u32, u32, u32); 14] = [
     (Kind::Direct, 37, 2, 32),
     (Kind::Doubling, 37, 2, 32),
     (Kind::Direct, 9, 2, 2),
+    (Kind::Direct, 9, 3, 2),
     (Kind::Direct, 15, 3, 6),
     (Kind::Direct, 341, 2, 4),
     (Kind::Doubling, 341, 2, 4),

@@ -6,7 +6,7 @@ use run::Run;
 use std::test::*;
 
 // The number of the refusal, or 0 where there was none.
-pub fn refused<T: Drop>(answer: Result<T, Refusal>) -> u8 {
+pub(crate) fn refused<T: Drop>(answer: Result<T, Refusal>) -> u8 {
     match answer {
         Ok(_) => 0,
         Err(refusal) => refusal.number(),
@@ -14,11 +14,11 @@ pub fn refused<T: Drop>(answer: Result<T, Refusal>) -> u8 {
 }
 
 // Terms taken, terms left and partial sum.
-pub fn standing(run: &Run) -> [u32; 3] {
+pub(crate) fn standing(run: &Run) -> [u32; 3] {
     [run.taken(), run.left(), run.partial_sum()]
 }
 
-pub fn finished<W: Arithmetic>(run: Run, w: &W) -> Result<FinishedResidue, Fail> {
+pub(crate) fn finished<W: Arithmetic>(run: Run, w: &W) -> Result<FinishedResidue, Fail> {
     match run.finish(w) {
         Ok(finished) => Ok(finished),
         Err(back) => {
@@ -30,7 +30,7 @@ pub fn finished<W: Arithmetic>(run: Run, w: &W) -> Result<FinishedResidue, Fail>
 }
 
 // The run that a refused finish hands back, with the number of the refusal.
-pub fn handed_back<W: Arithmetic>(run: Run, w: &W) -> Result<(u8, Run), Fail> {
+pub(crate) fn handed_back<W: Arithmetic>(run: Run, w: &W) -> Result<(u8, Run), Fail> {
     match run.finish(w) {
         Ok(_) => Err(Fail::new("finished")),
         Err(back) => {

@@ -54,7 +54,7 @@ fn finish<W: Arithmetic>(rt: &LibcRuntime, run: Run, arithmetic: &W) -> Result<(
 }
 
 // A whole direct run, three terms at a time.
-pub fn direct_run(rt: &LibcRuntime, index: u32, modulus: u32, generator: u32) -> Result<(), Stop> {
+pub(crate) fn direct_run(rt: &LibcRuntime, index: u32, modulus: u32, generator: u32) -> Result<(), Stop> {
     let plain = Plain::new(modulus)?;
     let mut run = opened(rt, Kind::Direct, index, modulus, generator)?;
     for _i in 0..run.left().div_ceil(3) {
@@ -64,7 +64,7 @@ pub fn direct_run(rt: &LibcRuntime, index: u32, modulus: u32, generator: u32) ->
 }
 
 // A doubling run that every share takes up with another arithmetic.
-pub fn doubling_run(rt: &LibcRuntime) -> Result<(), Stop> {
+pub(crate) fn doubling_run(rt: &LibcRuntime) -> Result<(), Stop> {
     let mut run = opened(rt, Kind::Doubling, 2, 17, 3)?;
     carry(rt, &mut run, &Montgomery::new(17)?, "Montgomery", 4)?;
     carry(rt, &mut run, &Balanced::new(17)?, "balanced", 4)?;
@@ -72,7 +72,7 @@ pub fn doubling_run(rt: &LibcRuntime) -> Result<(), Stop> {
 }
 
 // 2^8 leaves 1 by 17, so no doubling run of index 8 can be opened.
-pub fn refused_run(rt: &LibcRuntime) -> Result<(), Stop> {
+pub(crate) fn refused_run(rt: &LibcRuntime) -> Result<(), Stop> {
     match Run::open(Kind::Doubling, 8, 17, 3) {
         Ok(_) => {
             println!(rt, "a doubling run of index 8 for (17, 3) was opened")?;

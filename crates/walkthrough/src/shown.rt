@@ -12,7 +12,7 @@ fn name(kind: Kind) -> &'static str {
 }
 
 // Of which kind, index and pair the run is, and how many terms it has.
-pub fn show_opened(rt: &LibcRuntime, run: &Run) -> io::Result<()> {
+pub(crate) fn show_opened(rt: &LibcRuntime, run: &Run) -> io::Result<()> {
     let kind = name(run.kind());
     let index = run.index();
     let modulus = run.modulus();
@@ -25,7 +25,7 @@ pub fn show_opened(rt: &LibcRuntime, run: &Run) -> io::Result<()> {
 }
 
 // The share taken, and where the run stands after it.
-pub fn show_share(rt: &LibcRuntime, share: u32, how: &str, run: &Run) -> io::Result<()> {
+pub(crate) fn show_share(rt: &LibcRuntime, share: u32, how: &str, run: &Run) -> io::Result<()> {
     let taken = run.taken();
     let left = run.left();
     let sum = run.partial_sum();
@@ -36,7 +36,7 @@ pub fn show_share(rt: &LibcRuntime, share: u32, how: &str, run: &Run) -> io::Res
 }
 
 // Index, modulus, residue and kind of run.
-pub fn show_finished(rt: &LibcRuntime, finished: &FinishedResidue) -> io::Result<()> {
+pub(crate) fn show_finished(rt: &LibcRuntime, finished: &FinishedResidue) -> io::Result<()> {
     let index = finished.index();
     let modulus = finished.modulus();
     let residue = finished.residue();
