@@ -2,6 +2,8 @@
 #[cfg(test)]
 mod calls;
 #[cfg(test)]
+mod counting;
+#[cfg(test)]
 mod opening;
 #[cfg(test)]
 mod results;

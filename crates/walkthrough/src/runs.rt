@@ -12,6 +12,11 @@ use arithmetic::Montgomery;
 use arithmetic::MontgomeryArithmetic;
 use arithmetic::Plain;
 use arithmetic::PlainArithmetic;
+use digits::DigitSource;
+use digits::Doubler;
+use digits::DoublerSource;
+use digits::Reciprocal;
+use digits::ReciprocalSource;
 use run::Run;
 use theory::Kind;
 
@@ -53,8 +58,30 @@ fn finish<W: Arithmetic>(rt: &LibcRuntime, run: Run, arithmetic: &W) -> Result<(
     }
 }
 
+// One share, counted in groups of eight where they fit into row and share.
+fn count<W: Arithmetic, S: DigitSource>(
+    rt: &LibcRuntime,
+    run: &mut Run,
+    arithmetic: &W,
+    source: &mut S,
+    how: &str,
+    terms: u32,
+) -> Result<(), Stop> {
+    let mut cells = [0u64; 256];
+    let share = run.count_on(arithmetic, source, &mut cells, terms)?;
+    show_share(rt, share, how, run)?;
+    let groups = source.count();
+    println!(rt, "    the source has handed out {groups}")?;
+    Ok(())
+}
+
 // A whole direct run, three terms at a time.
-pub(crate) fn direct_run(rt: &LibcRuntime, index: u32, modulus: u32, generator: u32) -> Result<(), Stop> {
+pub(crate) fn direct_run(
+    rt: &LibcRuntime,
+    index: u32,
+    modulus: u32,
+    generator: u32,
+) -> Result<(), Stop> {
     let plain = Plain::new(modulus)?;
     let mut run = opened(rt, Kind::Direct, index, modulus, generator)?;
     for _i in 0..run.left().div_ceil(3) {
@@ -69,6 +96,32 @@ pub(crate) fn doubling_run(rt: &LibcRuntime) -> Result<(), Stop> {
     carry(rt, &mut run, &Montgomery::new(17)?, "Montgomery", 4)?;
     carry(rt, &mut run, &Balanced::new(17)?, "balanced", 4)?;
     finish(rt, run, &Plain::new(17)?)
+}
+
+// A doubling run with one row of 18 terms, in mixed shares: counted, one by one, and counted again with another
+// arithmetic and another source, where fewer than eight terms are left.
+pub(crate) fn counted_run(rt: &LibcRuntime) -> Result<(), Stop> {
+    let mut run = opened(rt, Kind::Doubling, 2, 37, 2)?;
+    let mut reciprocal = Reciprocal::new(37)?;
+    let mut doubler = Doubler::new(37)?;
+    count(
+        rt,
+        &mut run,
+        &Montgomery::new(37)?,
+        &mut reciprocal,
+        "Montgomery, counted",
+        11,
+    )?;
+    carry(rt, &mut run, &Plain::new(37)?, "plain", 3)?;
+    count(
+        rt,
+        &mut run,
+        &Balanced::new(37)?,
+        &mut doubler,
+        "balanced, counted",
+        1000,
+    )?;
+    finish(rt, run, &Montgomery::new(37)?)
 }
 
 // 2^8 leaves 1 by 17, so no doubling run of index 8 can be opened.
