@@ -19,6 +19,7 @@ mod singly;
 mod state;
 mod stretch;
 mod tell;
+mod told;
 mod walk;
 
 pub use carry::LARGEST_SHARE;

@@ -14,7 +14,7 @@ pub struct Multiplier {
 }
 
 impl Multiplier {
-    pub fn new(factor: u32, modulus: u32) -> Multiplier
+    pub(crate) fn new(factor: u32, modulus: u32) -> Multiplier
         requires below { ⌜ factor < modulus ⌝ }
         requires high { ⌜ modulus ≤ 2147483647 ⌝ }
         ensures factor { λ r. ⌜ r .factor ≡ factor ⌝ }
@@ -30,7 +30,7 @@ impl Multiplier {
 
     // The whole quotient of factor · x by p, and the remainder. The quotient is guessed through the scaled one,
     // and the guess is at most one too small.
-    pub fn times(&self, x: u32) -> (u32, u32)
+    pub(crate) fn times(&self, x: u32) -> (u32, u32)
         requires below { ⌜ x < now self .modulus ⌝ }
         ensures quotient { λ r. ⌜ r .0 ≡ now (self .entry) .factor * x / now (self .entry) .modulus ⌝ }
         ensures remainder { λ r. ⌜ r .1 ≡ now (self .entry) .factor * x % now (self .entry) .modulus ⌝ }

@@ -14,7 +14,7 @@ pub struct Stretch<E> {
 
 // Takes so many terms of a row. Both sums are worked before the point tells which of them counts, so that no branch
 // hangs on it.
-pub fn take_stretch<W: Arithmetic>(
+pub(crate) fn take_stretch<W: Arithmetic>(
     arithmetic: &W,
     ratio: W::Element,
     from: Stretch<W::Element>,
