@@ -54,7 +54,12 @@ fn finish<W: Arithmetic>(rt: &LibcRuntime, run: Run, arithmetic: &W) -> Result<(
 }
 
 // A whole direct run, three terms at a time.
-pub(crate) fn direct_run(rt: &LibcRuntime, index: u32, modulus: u32, generator: u32) -> Result<(), Stop> {
+pub(crate) fn direct_run(
+    rt: &LibcRuntime,
+    index: u32,
+    modulus: u32,
+    generator: u32,
+) -> Result<(), Stop> {
     let plain = Plain::new(modulus)?;
     let mut run = opened(rt, Kind::Direct, index, modulus, generator)?;
     for _i in 0..run.left().div_ceil(3) {
