@@ -72,3 +72,153 @@ place-stands next modulus count p (suc steps) i within below up =
     (λ (h : p ≤ modulus (next i)).
         subst (λ (j : ℕ). Stands modulus count p i j) (sym (place-here next modulus p steps i h)) (within, below, omega arith))
     (cases-lt (modulus (next i)) p)
+
+walk-step : (next : ℕ → ℕ) (steps i : ℕ) → walk next (suc steps) i ≡ next i ∷ walk next steps (next i)
+unfolding walk
+walk-step next steps i = refl
+
+walk-end : (next : ℕ → ℕ) (i : ℕ) → walk next zero i ≡ []
+unfolding walk
+walk-end next i = refl
+
+insert-end : (x : Pair) → insert x [] ≡ x ∷ []
+unfolding insert
+insert-end x = refl
+
+insert-on : (x y : Pair) (ys : List Pair) → y .modulus < x .modulus → insert x (y ∷ ys) ≡ y ∷ insert x ys
+unfolding insert
+insert-on x y ys h = cond-true _ _ _ (lt-ltb (y .modulus) (x .modulus) h)
+
+insert-here : (x y : Pair) (ys : List Pair) → x .modulus ≤ y .modulus → insert x (y ∷ ys) ≡ x ∷ y ∷ ys
+unfolding insert
+insert-here x y ys h = cond-false _ _ _ (le-ltb (y .modulus) (x .modulus) h)
+
+-- a new record, numbered one above the count, put after the record `at` of a chain
+module _ (next next′ : ℕ → ℕ) (pair pair′ : ℕ → Pair) (count at : ℕ) (x : Pair)
+    (kept : (i : ℕ) → i ≤ count → i ≢ at → next′ i ≡ next i) (same : (i : ℕ) → i ≤ count → pair′ i ≡ pair i)
+    (after : next′ at ≡ suc count) (onward : next′ (suc count) ≡ next at) (new : pair′ (suc count) ≡ x) where
+  -- beyond the place the chain is as it was
+  tail : (steps i : ℕ) → i ≤ count → pair at .modulus < pair i .modulus → rises next (λ j. pair j .modulus) count steps i ≡ true
+      → (rises next′ (λ j. pair′ j .modulus) (suc count) steps i ≡ true) × (map pair′ (walk next′ steps i) ≡ map pair (walk next steps i))
+  tail zero i within above up =
+      let other : i ≢ at = λ e. omega (arith, ap (λ (j : ℕ). pair j .modulus) e) in
+      ( rises-none next′ (λ j. pair′ j .modulus) (suc count) i (kept i within other ∙ rises-end next (λ j. pair j .modulus) count i up)
+      , ap (map pair′) (walk-end next′ i) ∙ ap (map pair) (sym (walk-end next i)))
+  tail (suc steps) i within above up =
+      let other : i ≢ at = λ e. omega (arith, ap (λ (j : ℕ). pair j .modulus) e) in
+      let m : ℕ → ℕ = λ j. pair j .modulus in
+      let m′ : ℕ → ℕ = λ j. pair′ j .modulus in
+      let step = rises-step next m count steps i up in
+      let s : Step next m count i = step .0 in
+      let to : next′ i ≡ next i = kept i within other in
+      let ih = tail steps (next i) (s .1) (omega arith) (step .1) in
+      let from : m′ i ≡ m i = ap (λ (y : Pair). y .modulus) (same i within) in
+      let there : m′ (next i) ≡ m (next i) = ap (λ (y : Pair). y .modulus) (same (next i) (s .1)) in
+      ( rises-more next′ m′ (suc count) steps i
+          (omega arith, omega arith, omega (arith, ap m′ to))
+          (subst (λ (j : ℕ). rises next′ m′ (suc count) steps j ≡ true) (sym to) (ih .0))
+      , ap (map pair′) (walk-step next′ steps i)
+        ∙ ap (λ (j : ℕ). pair′ j ∷ map pair′ (walk next′ steps j)) to
+        ∙ ap (λ (y : Pair). y ∷ map pair′ (walk next′ steps (next i))) (same (next i) (s .1))
+        ∙ ap (λ (ys : List Pair). pair (next i) ∷ ys) (ih .1)
+        ∙ ap (map pair) (sym (walk-step next steps i)))
+
+  -- where the place is i itself, the new record comes after it
+  put-here : (steps i : ℕ) → i ≡ at → i ≤ count → pair i .modulus < x .modulus
+      → rises next′ (λ j. pair′ j .modulus) (suc count) steps (suc count) ≡ true
+      → (rises next′ (λ j. pair′ j .modulus) (suc count) (suc steps) i ≡ true)
+        × (map pair′ (walk next′ (suc steps) i) ≡ x ∷ map pair′ (walk next′ steps (suc count)))
+  put-here steps i e within below up =
+      let m′ : ℕ → ℕ = λ j. pair′ j .modulus in
+      let to : next′ i ≡ suc count = ap next′ e ∙ after in
+      let from : m′ i ≡ pair i .modulus = ap (λ (y : Pair). y .modulus) (same i within) in
+      let there : m′ (next′ i) ≡ x .modulus = ap m′ to ∙ ap (λ (y : Pair). y .modulus) new in
+      ( rises-more next′ m′ (suc count) steps i (omega arith, omega arith, omega arith)
+          (subst (λ (j : ℕ). rises next′ m′ (suc count) steps j ≡ true) (sym to) up)
+      , ap (map pair′) (walk-step next′ steps i)
+        ∙ ap (λ (j : ℕ). pair′ j ∷ map pair′ (walk next′ steps j)) to
+        ∙ ap (λ (y : Pair). y ∷ map pair′ (walk next′ steps (suc count))) new)
+
+  -- from the new record the chain goes on as it went on from the place
+  put-on : (steps i : ℕ) → i ≡ at → pair i .modulus < x .modulus → x .modulus < pair (next i) .modulus
+      → rises next (λ j. pair j .modulus) count (suc steps) i ≡ true
+      → (rises next′ (λ j. pair′ j .modulus) (suc count) (suc steps) (suc count) ≡ true)
+        × (map pair′ (walk next′ (suc steps) (suc count)) ≡ map pair (walk next (suc steps) i))
+  put-on steps i e below above up =
+      let m : ℕ → ℕ = λ j. pair j .modulus in
+      let m′ : ℕ → ℕ = λ j. pair′ j .modulus in
+      let step = rises-step next m count steps i up in
+      let s : Step next m count i = step .0 in
+      let to : next′ (suc count) ≡ next i = onward ∙ ap next (sym e) in
+      let rest = tail steps (next i) (s .1) (omega (arith, ap m e)) (step .1) in
+      let from : m′ (suc count) ≡ x .modulus = ap (λ (y : Pair). y .modulus) new in
+      let there : m′ (next′ (suc count)) ≡ m (next i) = ap m′ to ∙ ap (λ (y : Pair). y .modulus) (same (next i) (s .1)) in
+      ( rises-more next′ m′ (suc count) steps (suc count) (omega arith, omega arith, omega arith)
+          (subst (λ (j : ℕ). rises next′ m′ (suc count) steps j ≡ true) (sym to) (rest .0))
+      , ap (map pair′) (walk-step next′ steps (suc count))
+        ∙ ap (λ (j : ℕ). pair′ j ∷ map pair′ (walk next′ steps j)) to
+        ∙ ap (λ (y : Pair). y ∷ map pair′ (walk next′ steps (next i))) (same (next i) (s .1))
+        ∙ ap (λ (ys : List Pair). pair (next i) ∷ ys) (rest .1)
+        ∙ ap (map pair) (sym (walk-step next steps i)))
+
+  -- where the place is further on, the step from i is as it was
+  pass-on : (steps i : ℕ) → i ≢ at → i ≤ count → Step next (λ j. pair j .modulus) count i → pair (next i) .modulus < x .modulus
+      → (rises next′ (λ j. pair′ j .modulus) (suc count) (suc steps) (next i) ≡ true)
+        × (map pair′ (walk next′ (suc steps) (next i)) ≡ insert x (map pair (walk next steps (next i))))
+      → (rises next′ (λ j. pair′ j .modulus) (suc count) (suc (suc steps)) i ≡ true)
+        × (map pair′ (walk next′ (suc (suc steps)) i) ≡ insert x (map pair (walk next (suc steps) i)))
+  pass-on steps i other within s below ih =
+      let m : ℕ → ℕ = λ j. pair j .modulus in
+      let m′ : ℕ → ℕ = λ j. pair′ j .modulus in
+      let to : next′ i ≡ next i = kept i within other in
+      let from : m′ i ≡ m i = ap (λ (y : Pair). y .modulus) (same i within) in
+      let there : m′ (next′ i) ≡ m (next i) = ap m′ to ∙ ap (λ (y : Pair). y .modulus) (same (next i) (s .1)) in
+      ( rises-more next′ m′ (suc count) (suc steps) i (omega arith, omega arith, omega arith)
+          (subst (λ (j : ℕ). rises next′ m′ (suc count) (suc steps) j ≡ true) (sym to) (ih .0))
+      , ap (map pair′) (walk-step next′ (suc steps) i)
+        ∙ ap (λ (j : ℕ). pair′ j ∷ map pair′ (walk next′ (suc steps) j)) to
+        ∙ ap (λ (y : Pair). y ∷ map pair′ (walk next′ (suc steps) (next i))) (same (next i) (s .1))
+        ∙ ap (λ (ys : List Pair). pair (next i) ∷ ys) (ih .1)
+        ∙ sym (insert-on x (pair (next i)) (map pair (walk next steps (next i))) below)
+        ∙ ap (λ (ns : List ℕ). insert x (map pair ns)) (sym (walk-step next steps i)))
+
+  -- the chain with the new record rises, and its pairs are those before with the new one in its place
+  pub inserted : ((i : ℕ) → 1 ≤ i → i ≤ count → pair i .modulus ≢ x .modulus) → (steps i : ℕ) → i ≤ count
+      → pair i .modulus < x .modulus → rises next (λ j. pair j .modulus) count steps i ≡ true
+      → place next (λ j. pair j .modulus) (x .modulus) steps i ≡ at
+      → (rises next′ (λ j. pair′ j .modulus) (suc count) (suc steps) i ≡ true)
+        × (map pair′ (walk next′ (suc steps) i) ≡ insert x (map pair (walk next steps i)))
+  inserted apart zero i within below up here =
+      let m : ℕ → ℕ = λ j. pair j .modulus in
+      let e : i ≡ at = sym (place-end next m (x .modulus) i) ∙ here in
+      let put =
+          put-here zero i e within below
+          (rises-none next′ (λ j. pair′ j .modulus) (suc count) (suc count) (onward ∙ ap next (sym e) ∙ rises-end next m count i up))
+      in
+      ( put .0
+      , put .1
+        ∙ ap (λ (ns : List ℕ). x ∷ map pair′ ns) (walk-end next′ (suc count))
+        ∙ sym (insert-end x)
+        ∙ ap (λ (ns : List ℕ). insert x (map pair ns)) (sym (walk-end next i)))
+  inserted apart (suc steps) i within below up here =
+      let m : ℕ → ℕ = λ j. pair j .modulus in
+      let step = rises-step next m count steps i up in
+      let s : Step next m count i = step .0 in
+      ⊎-elim
+      (λ (h : m (next i) < x .modulus).
+          let on : place next m (x .modulus) steps (next i) ≡ at = sym (place-on next m (x .modulus) steps i h) ∙ here in
+          let stands = place-stands next m count (x .modulus) steps (next i) (s .1) h (step .1) in
+          let other : i ≢ at = λ e. omega (arith, ap m (on ∙ sym e), stands .2) in
+          pass-on steps i other within s h (inserted apart steps (next i) (s .1) h (step .1) on))
+      (λ (h : x .modulus ≤ m (next i)).
+          let e : i ≡ at = sym (place-here next m (x .modulus) steps i h) ∙ here in
+          let above : x .modulus < m (next i) = omega (arith, apart (next i) (s .0) (s .1)) in
+          let on = put-on steps i e below above up in
+          let put = put-here (suc steps) i e within below (on .0) in
+          ( put .0
+          , put .1
+            ∙ ap (λ (ys : List Pair). x ∷ ys) (on .1)
+            ∙ ap (λ (ns : List ℕ). x ∷ map pair ns) (walk-step next steps i)
+            ∙ sym (insert-here x (pair (next i)) (map pair (walk next steps (next i))) h)
+            ∙ ap (λ (ns : List ℕ). insert x (map pair ns)) (sym (walk-step next steps i))))
+      (cases-lt (m (next i)) (x .modulus))
