@@ -5,7 +5,10 @@ use mathlib.Core.List.{List, [], _∷_, map}
 use Prim.Native.Nat.{ℕ, zero, suc}
 use lib.Dec.{eqb, leb, ltb}
 use lib.ListN.{length, getD}
-use Rattle.std.specs.declared.option.Option.the-variants.{None}
+use Rattle.std.specs.Finite.{nth}
+use Rattle.std.specs.Options.{isSome}
+use Rattle.std.specs.declared.option.Option.{Option}
+use Rattle.std.specs.declared.option.Option.the-variants.{Some, None}
 use Rattle.table.specs.declared.pair.Pair.{Pair}
 use Rattle.table.specs.declared.pair.Record.{Record}
 
@@ -67,10 +70,22 @@ unfoldable pub insert : Pair → List Pair → List Pair
 insert x [] = x ∷ []
 insert x (y ∷ ys) = cond (ltb (y .modulus) (x .modulus)) (y ∷ insert x ys) (x ∷ y ∷ ys)
 
--- a record has the modulus p
-unfoldable pub listed : List Record → ℕ → Bool
-listed [] p = Bool.false
-listed (r ∷ rs) p = cond (eqb (r .modulus) p) true (listed rs p)
+-- the record of a number
+abbrev pub numbered : List Record → ℕ → Option Record
+numbered rs zero = None
+numbered rs (suc i) = nth rs i
+
+-- the number of the first record with the modulus p, where the records are numbered from n on
+unfoldable pub number-from : ℕ → List Record → ℕ → Option ℕ
+number-from n [] p = None
+number-from n (r ∷ rs) p = cond (eqb (r .modulus) p) (Some n) (number-from (suc n) rs p)
+
+-- the number of the record with the modulus p, where it is listed
+abbrev pub number-of : List Record → ℕ → Option ℕ
+number-of rs p = number-from 1 rs p
+
+abbrev pub listed : List Record → ℕ → Bool
+listed rs p = isSome (number-of rs p)
 
 -- every record passes the test
 unfoldable pub every : (Record → Bool) → List Record → Bool

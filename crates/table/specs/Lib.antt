@@ -1,3 +1,5 @@
 pub mod First
 pub mod Fitness
 pub mod Chain
+pub mod Causes
+pub mod Tables
