@@ -5,7 +5,7 @@ use mathlib.Core.Path.{_≡_, refl, sym, ap, subst, _∙_}
 use mathlib.Core.Bool.{Bool, true, false, cond, _&&_}
 use mathlib.Core.List.{List, [], _∷_, map}
 use mathlib.Core.Logic.{_⊎_, inl, inr, ⊎-elim, _≢_}
-use Prim.Native.Nat.{ℕ, zero, suc, _+_, _≤_, _<_}
+use Prim.Native.Nat.{ℕ, zero, suc, _+_, _-_, _≤_, _<_}
 use native.Mathlib.Omega.{arith}
 use lib.Dec.{eqb, leb, ltb}
 use Rattle.std.proofs.shelf.Tests.{and-parts, and-from, ltb-true, lt-ltb, le-ltb, leb-true, le-leb, eqb-true, eq-eqb, cases-lt, cond-true, cond-false}
@@ -222,3 +222,29 @@ module _ (next next′ : ℕ → ℕ) (pair pair′ : ℕ → Pair) (count at : 
             ∙ sym (insert-here x (pair (next i)) (map pair (walk next steps (next i))) h)
             ∙ ap (λ (ns : List ℕ). insert x (map pair ns)) (sym (walk-step next steps i))))
       (cases-lt (m (next i)) (x .modulus))
+
+-- going along the chain for the place of p: the record i is reached, so many steps are left, and the place is still ahead
+abbrev pub Reached : (ℕ → ℕ) → (ℕ → ℕ) → ℕ → ℕ → ℕ → ℕ → Type 0
+Reached next modulus count p left i =
+    (i ≤ count) × (modulus i < p) × (rises next modulus count left i ≡ true) × (place next modulus p left i ≡ place next modulus p count 0)
+
+module _ (next modulus : ℕ → ℕ) (count p : ℕ) where
+  -- one step less is left
+  pub reached-less : (n step i : ℕ) → step < n → Reached next modulus count p (n - step) i → Reached next modulus count p (suc (n - (step + 1))) i
+  reached-less n step i h r =
+      let e : n - step ≡ suc (n - (step + 1)) = omega arith in
+      subst (λ (left : ℕ). Reached next modulus count p left i) e r
+
+  pub reached-step : (left i : ℕ) → Reached next modulus count p (suc left) i → Step next modulus count i
+  reached-step left i r = rises-step next modulus count left i (r .2) .0
+
+  pub reached-on : (left i : ℕ) → modulus (next i) < p → Reached next modulus count p (suc left) i → Reached next modulus count p left (next i)
+  reached-on left i h r =
+      let step = rises-step next modulus count left i (r .2) in
+      (step .0 .1, h, step .1, sym (place-on next modulus p left i h) ∙ r .3)
+
+  pub reached-here : (left i : ℕ) → p ≤ modulus (next i) → Reached next modulus count p (suc left) i → i ≡ place next modulus p count 0
+  reached-here left i h r = sym (place-here next modulus p left i h) ∙ r .3
+
+  pub reached-end : (i : ℕ) → Reached next modulus count p 0 i → i ≡ place next modulus p count 0
+  reached-end i r = sym (place-end next modulus p i) ∙ r .3

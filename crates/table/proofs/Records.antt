@@ -99,3 +99,8 @@ pub every-from : (test : Record → Bool) (rs : List Record) (d : Record) → ((
 unfolding every
 every-from test [] d each = refl
 every-from test (r ∷ rs) d each = and-from _ _ (each 0 (omega arith)) (every-from test rs d (λ i h. each (suc i) (omega arith)))
+
+-- the record of a number, past the head
+pub row-at : (first : ℕ) (rs : List Record) (n : ℕ) → 1 ≤ n → row (rows first rs) n ≡ getD rs (n - 1) (head 0)
+row-at first rs zero low = absurd (omega arith)
+row-at first rs (suc n) low = let e : n ≡ suc n - 1 = omega arith in ap (λ (i : ℕ). getD rs i (head 0)) e

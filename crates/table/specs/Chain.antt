@@ -87,6 +87,10 @@ number-of rs p = number-from 1 rs p
 abbrev pub listed : List Record → ℕ → Bool
 listed rs p = isSome (number-of rs p)
 
+-- a record with another next
+abbrev pub relinked : Record → ℕ → Record
+relinked r n = record { next = n; modulus = r .modulus; generator = r .generator; residue = r .residue }
+
 -- every record passes the test
 unfoldable pub every : (Record → Bool) → List Record → Bool
 every test [] = true

@@ -1,4 +1,5 @@
 // The table itself, with the facts that every table keeps.
+mod chain;
 mod entering;
 mod telling;
 
