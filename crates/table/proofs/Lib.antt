@@ -1,3 +1,5 @@
+pub mod Firsts
 pub mod Chains
 pub mod Meetings
 pub mod Records
+pub mod Linked

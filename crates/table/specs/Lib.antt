@@ -1,5 +1,5 @@
 pub mod First
 pub mod Fitness
 pub mod Chain
-pub mod Causes
+pub mod Entering
 pub mod Tables
