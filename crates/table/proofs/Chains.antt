@@ -8,6 +8,7 @@ use mathlib.Core.Logic.{_⊎_, inl, inr, ⊎-elim, _≢_}
 use Prim.Native.Nat.{ℕ, zero, suc, _+_, _-_, _≤_, _<_}
 use native.Mathlib.Omega.{arith}
 use lib.Dec.{eqb, leb, ltb}
+use lib.ListN.{length, getD}
 use Rattle.std.proofs.shelf.Tests.{and-parts, and-from, ltb-true, lt-ltb, le-ltb, leb-true, le-leb, eqb-true, eq-eqb, cases-lt, cond-true, cond-false}
 use Rattle.table.specs.declared.pair.Pair.{Pair}
 use Rattle.table.specs.Chain.{rises, walk, place, insert}
@@ -67,10 +68,10 @@ place-stands next modulus count p (suc steps) i within below up =
     let s : Step next modulus count i = step .0 in
     ⊎-elim
     (λ (h : modulus (next i) < p).
-        let ih = place-stands next modulus count p steps (next i) (s .1) h (step .1) in
-        subst (λ (j : ℕ). Stands modulus count p i j) (sym (place-on next modulus p steps i h)) (ih .0, ih .1, omega arith))
+    let ih = place-stands next modulus count p steps (next i) (s .1) h (step .1) in
+    subst (λ (j : ℕ). Stands modulus count p i j) (sym (place-on next modulus p steps i h)) (ih .0, ih .1, omega arith))
     (λ (h : p ≤ modulus (next i)).
-        subst (λ (j : ℕ). Stands modulus count p i j) (sym (place-here next modulus p steps i h)) (within, below, omega arith))
+    subst (λ (j : ℕ). Stands modulus count p i j) (sym (place-here next modulus p steps i h)) (within, below, omega arith))
     (cases-lt (modulus (next i)) p)
 
 walk-step : (next : ℕ → ℕ) (steps i : ℕ) → walk next (suc steps) i ≡ next i ∷ walk next steps (next i)
@@ -101,9 +102,10 @@ module _ (next next′ : ℕ → ℕ) (pair pair′ : ℕ → Pair) (count at : 
   tail : (steps i : ℕ) → i ≤ count → pair at .modulus < pair i .modulus → rises next (λ j. pair j .modulus) count steps i ≡ true
       → (rises next′ (λ j. pair′ j .modulus) (suc count) steps i ≡ true) × (map pair′ (walk next′ steps i) ≡ map pair (walk next steps i))
   tail zero i within above up =
-      let other : i ≢ at = λ e. omega (arith, ap (λ (j : ℕ). pair j .modulus) e) in
-      ( rises-none next′ (λ j. pair′ j .modulus) (suc count) i (kept i within other ∙ rises-end next (λ j. pair j .modulus) count i up)
-      , ap (map pair′) (walk-end next′ i) ∙ ap (map pair) (sym (walk-end next i)))
+      let other : i ≢ at = λ e. omega (arith, ap (λ (j : ℕ). pair j .modulus) e) in (
+        rises-none next′ (λ j. pair′ j .modulus) (suc count) i (kept i within other ∙ rises-end next (λ j. pair j .modulus) count i up),
+        ap (map pair′) (walk-end next′ i) ∙ ap (map pair) (sym (walk-end next i)),
+      )
   tail (suc steps) i within above up =
       let other : i ≢ at = λ e. omega (arith, ap (λ (j : ℕ). pair j .modulus) e) in
       let m : ℕ → ℕ = λ j. pair j .modulus in
@@ -113,37 +115,39 @@ module _ (next next′ : ℕ → ℕ) (pair pair′ : ℕ → Pair) (count at : 
       let to : next′ i ≡ next i = kept i within other in
       let ih = tail steps (next i) (s .1) (omega arith) (step .1) in
       let from : m′ i ≡ m i = ap (λ (y : Pair). y .modulus) (same i within) in
-      let there : m′ (next i) ≡ m (next i) = ap (λ (y : Pair). y .modulus) (same (next i) (s .1)) in
-      ( rises-more next′ m′ (suc count) steps i
-          (omega arith, omega arith, omega (arith, ap m′ to))
-          (subst (λ (j : ℕ). rises next′ m′ (suc count) steps j ≡ true) (sym to) (ih .0))
-      , ap (map pair′) (walk-step next′ steps i)
-        ∙ ap (λ (j : ℕ). pair′ j ∷ map pair′ (walk next′ steps j)) to
-        ∙ ap (λ (y : Pair). y ∷ map pair′ (walk next′ steps (next i))) (same (next i) (s .1))
-        ∙ ap (λ (ys : List Pair). pair (next i) ∷ ys) (ih .1)
-        ∙ ap (map pair) (sym (walk-step next steps i)))
+      let there : m′ (next i) ≡ m (next i) = ap (λ (y : Pair). y .modulus) (same (next i) (s .1)) in (
+        rises-more next′ m′ (suc count) steps i
+            (omega arith, omega arith, omega (arith, ap m′ to))
+            (subst (λ (j : ℕ). rises next′ m′ (suc count) steps j ≡ true) (sym to) (ih .0)),
+        ap (map pair′) (walk-step next′ steps i)
+            ∙ ap (λ (j : ℕ). pair′ j ∷ map pair′ (walk next′ steps j)) to
+            ∙ ap (λ (y : Pair). y ∷ map pair′ (walk next′ steps (next i))) (same (next i) (s .1))
+            ∙ ap (λ (ys : List Pair). pair (next i) ∷ ys) (ih .1)
+            ∙ ap (map pair) (sym (walk-step next steps i)),
+      )
 
   -- where the place is i itself, the new record comes after it
   put-here : (steps i : ℕ) → i ≡ at → i ≤ count → pair i .modulus < x .modulus
       → rises next′ (λ j. pair′ j .modulus) (suc count) steps (suc count) ≡ true
       → (rises next′ (λ j. pair′ j .modulus) (suc count) (suc steps) i ≡ true)
-        × (map pair′ (walk next′ (suc steps) i) ≡ x ∷ map pair′ (walk next′ steps (suc count)))
+      × (map pair′ (walk next′ (suc steps) i) ≡ x ∷ map pair′ (walk next′ steps (suc count)))
   put-here steps i e within below up =
       let m′ : ℕ → ℕ = λ j. pair′ j .modulus in
       let to : next′ i ≡ suc count = ap next′ e ∙ after in
       let from : m′ i ≡ pair i .modulus = ap (λ (y : Pair). y .modulus) (same i within) in
-      let there : m′ (next′ i) ≡ x .modulus = ap m′ to ∙ ap (λ (y : Pair). y .modulus) new in
-      ( rises-more next′ m′ (suc count) steps i (omega arith, omega arith, omega arith)
-          (subst (λ (j : ℕ). rises next′ m′ (suc count) steps j ≡ true) (sym to) up)
-      , ap (map pair′) (walk-step next′ steps i)
-        ∙ ap (λ (j : ℕ). pair′ j ∷ map pair′ (walk next′ steps j)) to
-        ∙ ap (λ (y : Pair). y ∷ map pair′ (walk next′ steps (suc count))) new)
+      let there : m′ (next′ i) ≡ x .modulus = ap m′ to ∙ ap (λ (y : Pair). y .modulus) new in (
+        rises-more next′ m′ (suc count) steps i (omega arith, omega arith, omega arith)
+            (subst (λ (j : ℕ). rises next′ m′ (suc count) steps j ≡ true) (sym to) up),
+        ap (map pair′) (walk-step next′ steps i)
+            ∙ ap (λ (j : ℕ). pair′ j ∷ map pair′ (walk next′ steps j)) to
+            ∙ ap (λ (y : Pair). y ∷ map pair′ (walk next′ steps (suc count))) new,
+      )
 
   -- from the new record the chain goes on as it went on from the place
   put-on : (steps i : ℕ) → i ≡ at → pair i .modulus < x .modulus → x .modulus < pair (next i) .modulus
       → rises next (λ j. pair j .modulus) count (suc steps) i ≡ true
       → (rises next′ (λ j. pair′ j .modulus) (suc count) (suc steps) (suc count) ≡ true)
-        × (map pair′ (walk next′ (suc steps) (suc count)) ≡ map pair (walk next (suc steps) i))
+      × (map pair′ (walk next′ (suc steps) (suc count)) ≡ map pair (walk next (suc steps) i))
   put-on steps i e below above up =
       let m : ℕ → ℕ = λ j. pair j .modulus in
       let m′ : ℕ → ℕ = λ j. pair′ j .modulus in
@@ -152,75 +156,79 @@ module _ (next next′ : ℕ → ℕ) (pair pair′ : ℕ → Pair) (count at : 
       let to : next′ (suc count) ≡ next i = onward ∙ ap next (sym e) in
       let rest = tail steps (next i) (s .1) (omega (arith, ap m e)) (step .1) in
       let from : m′ (suc count) ≡ x .modulus = ap (λ (y : Pair). y .modulus) new in
-      let there : m′ (next′ (suc count)) ≡ m (next i) = ap m′ to ∙ ap (λ (y : Pair). y .modulus) (same (next i) (s .1)) in
-      ( rises-more next′ m′ (suc count) steps (suc count) (omega arith, omega arith, omega arith)
-          (subst (λ (j : ℕ). rises next′ m′ (suc count) steps j ≡ true) (sym to) (rest .0))
-      , ap (map pair′) (walk-step next′ steps (suc count))
-        ∙ ap (λ (j : ℕ). pair′ j ∷ map pair′ (walk next′ steps j)) to
-        ∙ ap (λ (y : Pair). y ∷ map pair′ (walk next′ steps (next i))) (same (next i) (s .1))
-        ∙ ap (λ (ys : List Pair). pair (next i) ∷ ys) (rest .1)
-        ∙ ap (map pair) (sym (walk-step next steps i)))
+      let there : m′ (next′ (suc count)) ≡ m (next i) = ap m′ to ∙ ap (λ (y : Pair). y .modulus) (same (next i) (s .1)) in (
+        rises-more next′ m′ (suc count) steps (suc count) (omega arith, omega arith, omega arith)
+            (subst (λ (j : ℕ). rises next′ m′ (suc count) steps j ≡ true) (sym to) (rest .0)),
+        ap (map pair′) (walk-step next′ steps (suc count))
+            ∙ ap (λ (j : ℕ). pair′ j ∷ map pair′ (walk next′ steps j)) to
+            ∙ ap (λ (y : Pair). y ∷ map pair′ (walk next′ steps (next i))) (same (next i) (s .1))
+            ∙ ap (λ (ys : List Pair). pair (next i) ∷ ys) (rest .1)
+            ∙ ap (map pair) (sym (walk-step next steps i)),
+      )
 
   -- where the place is further on, the step from i is as it was
   pass-on : (steps i : ℕ) → i ≢ at → i ≤ count → Step next (λ j. pair j .modulus) count i → pair (next i) .modulus < x .modulus
       → (rises next′ (λ j. pair′ j .modulus) (suc count) (suc steps) (next i) ≡ true)
-        × (map pair′ (walk next′ (suc steps) (next i)) ≡ insert x (map pair (walk next steps (next i))))
+      × (map pair′ (walk next′ (suc steps) (next i)) ≡ insert x (map pair (walk next steps (next i))))
       → (rises next′ (λ j. pair′ j .modulus) (suc count) (suc (suc steps)) i ≡ true)
-        × (map pair′ (walk next′ (suc (suc steps)) i) ≡ insert x (map pair (walk next (suc steps) i)))
+      × (map pair′ (walk next′ (suc (suc steps)) i) ≡ insert x (map pair (walk next (suc steps) i)))
   pass-on steps i other within s below ih =
       let m : ℕ → ℕ = λ j. pair j .modulus in
       let m′ : ℕ → ℕ = λ j. pair′ j .modulus in
       let to : next′ i ≡ next i = kept i within other in
       let from : m′ i ≡ m i = ap (λ (y : Pair). y .modulus) (same i within) in
-      let there : m′ (next′ i) ≡ m (next i) = ap m′ to ∙ ap (λ (y : Pair). y .modulus) (same (next i) (s .1)) in
-      ( rises-more next′ m′ (suc count) (suc steps) i (omega arith, omega arith, omega arith)
-          (subst (λ (j : ℕ). rises next′ m′ (suc count) (suc steps) j ≡ true) (sym to) (ih .0))
-      , ap (map pair′) (walk-step next′ (suc steps) i)
-        ∙ ap (λ (j : ℕ). pair′ j ∷ map pair′ (walk next′ (suc steps) j)) to
-        ∙ ap (λ (y : Pair). y ∷ map pair′ (walk next′ (suc steps) (next i))) (same (next i) (s .1))
-        ∙ ap (λ (ys : List Pair). pair (next i) ∷ ys) (ih .1)
-        ∙ sym (insert-on x (pair (next i)) (map pair (walk next steps (next i))) below)
-        ∙ ap (λ (ns : List ℕ). insert x (map pair ns)) (sym (walk-step next steps i)))
+      let there : m′ (next′ i) ≡ m (next i) = ap m′ to ∙ ap (λ (y : Pair). y .modulus) (same (next i) (s .1)) in (
+        rises-more next′ m′ (suc count) (suc steps) i (omega arith, omega arith, omega arith)
+            (subst (λ (j : ℕ). rises next′ m′ (suc count) (suc steps) j ≡ true) (sym to) (ih .0)),
+        ap (map pair′) (walk-step next′ (suc steps) i)
+            ∙ ap (λ (j : ℕ). pair′ j ∷ map pair′ (walk next′ (suc steps) j)) to
+            ∙ ap (λ (y : Pair). y ∷ map pair′ (walk next′ (suc steps) (next i))) (same (next i) (s .1))
+            ∙ ap (λ (ys : List Pair). pair (next i) ∷ ys) (ih .1)
+            ∙ sym (insert-on x (pair (next i)) (map pair (walk next steps (next i))) below)
+            ∙ ap (λ (ns : List ℕ). insert x (map pair ns)) (sym (walk-step next steps i)),
+      )
 
   -- the chain with the new record rises, and its pairs are those before with the new one in its place
   pub inserted : ((i : ℕ) → 1 ≤ i → i ≤ count → pair i .modulus ≢ x .modulus) → (steps i : ℕ) → i ≤ count
       → pair i .modulus < x .modulus → rises next (λ j. pair j .modulus) count steps i ≡ true
       → place next (λ j. pair j .modulus) (x .modulus) steps i ≡ at
       → (rises next′ (λ j. pair′ j .modulus) (suc count) (suc steps) i ≡ true)
-        × (map pair′ (walk next′ (suc steps) i) ≡ insert x (map pair (walk next steps i)))
+      × (map pair′ (walk next′ (suc steps) i) ≡ insert x (map pair (walk next steps i)))
   inserted apart zero i within below up here =
       let m : ℕ → ℕ = λ j. pair j .modulus in
       let e : i ≡ at = sym (place-end next m (x .modulus) i) ∙ here in
       let put =
-          put-here zero i e within below
-          (rises-none next′ (λ j. pair′ j .modulus) (suc count) (suc count) (onward ∙ ap next (sym e) ∙ rises-end next m count i up))
-      in
-      ( put .0
-      , put .1
-        ∙ ap (λ (ns : List ℕ). x ∷ map pair′ ns) (walk-end next′ (suc count))
-        ∙ sym (insert-end x)
-        ∙ ap (λ (ns : List ℕ). insert x (map pair ns)) (sym (walk-end next i)))
+      put-here zero i e within below
+      (rises-none next′ (λ j. pair′ j .modulus) (suc count) (suc count) (onward ∙ ap next (sym e) ∙ rises-end next m count i up))
+      in (
+        put .0,
+        put .1
+            ∙ ap (λ (ns : List ℕ). x ∷ map pair′ ns) (walk-end next′ (suc count))
+            ∙ sym (insert-end x)
+            ∙ ap (λ (ns : List ℕ). insert x (map pair ns)) (sym (walk-end next i)),
+      )
   inserted apart (suc steps) i within below up here =
       let m : ℕ → ℕ = λ j. pair j .modulus in
       let step = rises-step next m count steps i up in
       let s : Step next m count i = step .0 in
       ⊎-elim
       (λ (h : m (next i) < x .modulus).
-          let on : place next m (x .modulus) steps (next i) ≡ at = sym (place-on next m (x .modulus) steps i h) ∙ here in
-          let stands = place-stands next m count (x .modulus) steps (next i) (s .1) h (step .1) in
-          let other : i ≢ at = λ e. omega (arith, ap m (on ∙ sym e), stands .2) in
-          pass-on steps i other within s h (inserted apart steps (next i) (s .1) h (step .1) on))
+      let on : place next m (x .modulus) steps (next i) ≡ at = sym (place-on next m (x .modulus) steps i h) ∙ here in
+      let stands = place-stands next m count (x .modulus) steps (next i) (s .1) h (step .1) in
+      let other : i ≢ at = λ e. omega (arith, ap m (on ∙ sym e), stands .2) in
+      pass-on steps i other within s h (inserted apart steps (next i) (s .1) h (step .1) on))
       (λ (h : x .modulus ≤ m (next i)).
-          let e : i ≡ at = sym (place-here next m (x .modulus) steps i h) ∙ here in
-          let above : x .modulus < m (next i) = omega (arith, apart (next i) (s .0) (s .1)) in
-          let on = put-on steps i e below above up in
-          let put = put-here (suc steps) i e within below (on .0) in
-          ( put .0
-          , put .1
+      let e : i ≡ at = sym (place-here next m (x .modulus) steps i h) ∙ here in
+      let above : x .modulus < m (next i) = omega (arith, apart (next i) (s .0) (s .1)) in
+      let on = put-on steps i e below above up in
+      let put = put-here (suc steps) i e within below (on .0) in (
+        put .0,
+        put .1
             ∙ ap (λ (ys : List Pair). x ∷ ys) (on .1)
             ∙ ap (λ (ns : List ℕ). x ∷ map pair ns) (walk-step next steps i)
             ∙ sym (insert-here x (pair (next i)) (map pair (walk next steps (next i))) h)
-            ∙ ap (λ (ns : List ℕ). insert x (map pair ns)) (sym (walk-step next steps i))))
+            ∙ ap (λ (ns : List ℕ). insert x (map pair ns)) (sym (walk-step next steps i)),
+      ))
       (cases-lt (m (next i)) (x .modulus))
 
 -- going along the chain for the place of p: the record i is reached, so many steps are left, and the place is still ahead
@@ -248,3 +256,30 @@ module _ (next modulus : ℕ → ℕ) (count p : ℕ) where
 
   pub reached-end : (i : ℕ) → Reached next modulus count p 0 i → i ≡ place next modulus p count 0
   reached-end i r = sym (place-end next modulus p i) ∙ r .3
+
+-- the records of a walk, one by one
+pub length-walk : (next : ℕ → ℕ) (steps i : ℕ) → length (walk next steps i) ≡ steps
+unfolding walk
+length-walk next zero i = refl
+length-walk next (suc steps) i = ap suc (length-walk next steps (next i))
+
+pub walk-first : (next : ℕ → ℕ) (steps i : ℕ) → 0 < steps → getD (walk next steps i) 0 0 ≡ next i
+unfolding walk
+walk-first next zero i h = absurd (omega arith)
+walk-first next (suc steps) i h = refl
+
+pub walk-more : (next : ℕ → ℕ) (steps i j : ℕ) → suc j < steps → getD (walk next steps i) (suc j) 0 ≡ next (getD (walk next steps i) j 0)
+unfolding walk
+walk-more next zero i j h = absurd (omega arith)
+walk-more next (suc steps) i zero h = walk-first next steps (next i) (omega arith)
+walk-more next (suc steps) i (suc j) h = walk-more next steps (next i) j (omega arith)
+
+pub walk-within : (next modulus : ℕ → ℕ) (count steps i j : ℕ) → rises next modulus count steps i ≡ true → j < steps
+    → (1 ≤ getD (walk next steps i) j 0) × (getD (walk next steps i) j 0 ≤ count)
+unfolding walk
+walk-within next modulus count zero i j up h = absurd (omega arith)
+walk-within next modulus count (suc steps) i zero up h =
+    let s = rises-step next modulus count steps i up in
+    (s .0 .0, s .0 .1)
+walk-within next modulus count (suc steps) i (suc j) up h =
+    walk-within next modulus count steps (next i) j (rises-step next modulus count steps i up .1) (omega arith)

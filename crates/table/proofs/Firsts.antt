@@ -25,8 +25,8 @@ all-fail [] h = tt
 all-fail (t ∷ ts) h =
     ⊎-elim
     (λ (e : t .0 ≡ true).
-        let found : Some (t .1) ≡ None = sym (cond-true (t .0) (Some (t .1)) (firstOf ts) e) ∙ h in
-        absurd (let z : _≡_ {A = ℕ} 0 1 = cc in omega arith))
+    let found : Some (t .1) ≡ None = sym (cond-true (t .0) (Some (t .1)) (firstOf ts) e) ∙ h in
+    absurd (let z : _≡_ {A = ℕ} 0 1 = cc in omega arith))
     (λ (e : t .0 ≡ false). (e, all-fail ts (sym (cond-false (t .0) (Some (t .1)) (firstOf ts) e) ∙ h)))
     (cases-bool (t .0))
 
@@ -43,9 +43,10 @@ none-since (Some x) h = absurd (let z : _≡_ {A = ℕ} 0 1 = cc in omega arith)
 pub admitted : (t : Contents) (p g : ℕ) → firstOf (enter-causes t p g) ≡ None
     → (modulus-fits p ≡ true) × (generator-fits p g ≡ true) × (index-fits p (t .index) ≡ true) × (length (t .records) < 1023) × (number-of (t .records) p ≡ None)
 admitted t p g h =
-    let all = all-fail (enter-causes t p g) h in
-    ( not-false (modulus-fits p) (all .0)
-    , not-false (generator-fits p g) (all .1 .0)
-    , not-false (index-fits p (t .index)) (all .1 .1 .0)
-    , leb-false 1023 (length (t .records)) (all .1 .1 .1 .0)
-    , none-since (number-of (t .records) p) (all .1 .1 .1 .1 .0))
+    let all = all-fail (enter-causes t p g) h in (
+      not-false (modulus-fits p) (all .0),
+      not-false (generator-fits p g) (all .1 .0),
+      not-false (index-fits p (t .index)) (all .1 .1 .0),
+      leb-false 1023 (length (t .records)) (all .1 .1 .1 .0),
+      none-since (number-of (t .records) p) (all .1 .1 .1 .1 .0),
+    )

@@ -13,7 +13,7 @@ use Rattle.std.proofs.shelf.Lists.{length-set, length-push, getD-set-same, getD
 use Rattle.std.proofs.shelf.Tests.{and-parts, and-from, cases-eq}
 use Rattle.table.specs.declared.pair.Pair.{Pair}
 use Rattle.table.specs.declared.pair.Record.{Record}
-use Rattle.table.specs.Chain.{Contents, rises, chained, chain-pairs, walk, place, insert, rows, row, head, next-in, modulus-in, pair-in, relinked, every, number-of}
+use Rattle.table.specs.Chain.{rises, chained, pairs-along, walk, place, insert, rows, row, head, next-in, modulus-in, pair-in, relinked, every, number-of}
 use Rattle.table.specs.Entering.{waiting-record, unlinked}
 use Rattle.table.proofs.Chains.{place-stands, inserted}
 use Rattle.table.proofs.Records.{unlisted}
@@ -86,13 +86,13 @@ module _ (first first′ : ℕ) (rs mid rs′ : List Record) (p g at n : ℕ)
       let pair : Record → Pair = λ r. record { modulus = r .modulus; generator = r .generator } in
       ⊎-elim
       (λ (e : i ≡ at).
-          ap (λ (j : ℕ). pair-in (rows first′ rs′) j) e ∙ ap pair at-row ∙ ap (λ (j : ℕ). pair-in (rows first rs) j) (sym e))
+      ap (λ (j : ℕ). pair-in (rows first′ rs′) j) e ∙ ap pair at-row ∙ ap (λ (j : ℕ). pair-in (rows first rs) j) (sym e))
       (λ (ne : i ≡ at → ⊥). ap pair (old-row i h ne))
       (cases-eq i at)
 
   both : (rises (next-in (rows first′ rs′)) (modulus-in (rows first′ rs′)) (suc (length rs)) (suc (length rs)) 0 ≡ true)
       × (map (pair-in (rows first′ rs′)) (walk (next-in (rows first′ rs′)) (suc (length rs)) 0)
-        ≡ insert (record { modulus = p; generator = g }) (map (pair-in (rows first rs)) (walk (next-in (rows first rs)) (length rs) 0)))
+      ≡ insert (record { modulus = p; generator = g }) (map (pair-in (rows first rs)) (walk (next-in (rows first rs)) (length rs) 0)))
   unfolding chained
   both =
       inserted (next-in (rows first rs)) (next-in (rows first′ rs′)) (pair-in (rows first rs)) (pair-in (rows first′ rs′)) (length rs) at
@@ -109,20 +109,19 @@ module _ (first first′ : ℕ) (rs mid rs′ : List Record) (p g at n : ℕ)
   linked-chain =
       subst (λ (c : ℕ). rises (next-in (rows first′ rs′)) (modulus-in (rows first′ rs′)) c c 0 ≡ true) (sym count-now) (both .0)
 
-  pub linked-pairs : (k : ℕ) → chain-pairs (record { first = first′; index = k; records = rs′ })
-      ≡ insert (record { modulus = p; generator = g }) (chain-pairs (record { first = first; index = k; records = rs }))
-  unfolding chain-pairs
-  linked-pairs k =
+  pub linked-pairs : pairs-along first′ rs′ ≡ insert (record { modulus = p; generator = g }) (pairs-along first rs)
+  unfolding pairs-along
+  linked-pairs =
       ap (λ (c : ℕ). map (pair-in (rows first′ rs′)) (walk (next-in (rows first′ rs′)) c 0)) count-now ∙ both .1
 
   pub linked-records : unlinked rs′ ≡ unlinked rs ++ waiting-record 0 p g ∷ []
   linked-records =
       let f : Record → Record = λ r. relinked r 0 in
       let whole : unlinked (rows first′ mid) ≡ unlinked (rows first rs) =
-          ap (map f) linked
-          ∙ map-set f (rows first rs) at (relinked (row (rows first rs) at) n)
-          ∙ ap (λ (r : Record). set (map f (rows first rs)) at r) (sym (getD-map f (rows first rs) at (head 0) (head 0) (omega (arith, linked-within))))
-          ∙ set-getD (map f (rows first rs)) at (head 0)
+      ap (map f) linked
+      ∙ map-set f (rows first rs) at (relinked (row (rows first rs) at) n)
+      ∙ ap (λ (r : Record). set (map f (rows first rs)) at r) (sym (getD-map f (rows first rs) at (head 0) (head 0) (omega (arith, linked-within))))
+      ∙ set-getD (map f (rows first rs)) at (head 0)
       in
       let tails : unlinked mid ≡ unlinked rs = cc in
       ap (map f) pushed

@@ -48,7 +48,7 @@ sum-same zero i low high = omega arith
 sum-same (suc n) i low high =
     ⊎-elim
     (λ (e : i ≡ suc n).
-        omega (arith, same-is i (suc n) e, sum-nothing n (λ j. same i (suc j)) (λ j l. same-not i (suc j) (λ e′. omega arith))))
+    omega (arith, same-is i (suc n) e, sum-nothing n (λ j. same i (suc j)) (λ j l. same-not i (suc j) (λ e′. omega arith))))
     (λ (ne : i ≡ suc n → ⊥). omega (arith, same-not i (suc n) ne, sum-same n i low (omega arith)))
     (cases-eq i (suc n))
 
@@ -96,7 +96,7 @@ module _ (next modulus : ℕ → ℕ) (count : ℕ) where
       let step = rises-step next modulus count steps i up in
       ⊎-elim
       (λ (e : next i ≡ j).
-          omega (arith, same-is (next i) j e, times-none steps (next i) j (omega (arith, ap modulus e)) (step .1)))
+      omega (arith, same-is (next i) j e, times-none steps (next i) j (omega (arith, ap modulus e)) (step .1)))
       (λ (ne : next i ≡ j → ⊥). omega (arith, same-not (next i) j ne, times-one steps (next i) j (step .1)))
       (cases-eq (next i) j)
 
@@ -128,18 +128,18 @@ module _ (next modulus : ℕ → ℕ) (count : ℕ) where
       let step = rises-step next modulus count steps i up in
       ⊎-elim
       (λ (here : next i ≡ j).
-          ⊎-elim
-          (λ (also : next i ≡ k). sym here ∙ also)
-          (λ (ne : next i ≡ k → ⊥).
-              omega (arith, same-not (next i) k ne, times-none steps (next i) k (omega (arith, ap modulus here)) (step .1)))
-          (cases-eq (next i) k))
+      ⊎-elim
+      (λ (also : next i ≡ k). sym here ∙ also)
+      (λ (ne : next i ≡ k → ⊥).
+      omega (arith, same-not (next i) k ne, times-none steps (next i) k (omega (arith, ap modulus here)) (step .1)))
+      (cases-eq (next i) k))
       (λ (ne : next i ≡ j → ⊥).
-          ⊎-elim
-          (λ (here : next i ≡ k).
-              omega (arith, same-not (next i) j ne, times-none steps (next i) j (omega (arith, ap modulus here)) (step .1)))
-          (λ (nor : next i ≡ k → ⊥).
-              one-of-two steps (next i) j k (step .1) (omega (arith, same-not (next i) j ne)) (omega (arith, same-not (next i) k nor)) e)
-          (cases-eq (next i) k))
+      ⊎-elim
+      (λ (here : next i ≡ k).
+      omega (arith, same-not (next i) j ne, times-none steps (next i) j (omega (arith, ap modulus here)) (step .1)))
+      (λ (nor : next i ≡ k → ⊥).
+      one-of-two steps (next i) j k (step .1) (omega (arith, same-not (next i) j ne)) (omega (arith, same-not (next i) k nor)) e)
+      (cases-eq (next i) k))
       (cases-eq (next i) j)
 
   -- two records have two moduli

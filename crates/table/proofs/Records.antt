@@ -35,7 +35,7 @@ numbered-at rs (suc n) d low high =
     let e : n ≡ suc n - 1 = omega arith in
     nth-getD rs n d (omega arith) ∙ ap (λ (i : ℕ). Some (getD rs i d)) e
 
-nth-past : (rs : List Record) (i : ℕ) → length rs ≤ i → nth rs i ≡ None
+pub nth-past : {X : Type 0} (rs : List X) (i : ℕ) → length rs ≤ i → nth rs i ≡ None
 nth-past [] i h = refl
 nth-past (r ∷ rs) zero h = absurd (omega arith)
 nth-past (r ∷ rs) (suc i) h = nth-past rs i (omega arith)
@@ -73,10 +73,10 @@ unlisted-from n [] p none i d h = absurd (omega arith)
 unlisted-from n (r ∷ rs) p none i d h =
     ⊎-elim
     (λ (e : r .modulus ≡ p).
-        let found : Some n ≡ None = sym (cond-true _ (Some n) (number-from (suc n) rs p) (eq-eqb (r .modulus) p e)) ∙ none in
-        absurd (let z : _≡_ {A = ℕ} 0 1 = cc in omega arith))
+    let found : Some n ≡ None = sym (cond-true _ (Some n) (number-from (suc n) rs p) (eq-eqb (r .modulus) p e)) ∙ none in
+    absurd (let z : _≡_ {A = ℕ} 0 1 = cc in omega arith))
     (λ (ne : r .modulus ≡ p → ⊥).
-        rest i (ne , unlisted-from (suc n) rs p (sym (cond-false _ (Some n) (number-from (suc n) rs p) (ne-eqb (r .modulus) p ne)) ∙ none)) h)
+    rest i (ne, unlisted-from (suc n) rs p (sym (cond-false _ (Some n) (number-from (suc n) rs p) (ne-eqb (r .modulus) p ne)) ∙ none)) h)
     (cases-eq (r .modulus) p)
   where
     rest : (i : ℕ) → (r .modulus ≢ p) × ((j : ℕ) (d : Record) → j < length rs → getD rs j d .modulus ≢ p) → i < suc (length rs) → getD (r ∷ rs) i d .modulus ≢ p

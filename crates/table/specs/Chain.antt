@@ -60,10 +60,12 @@ unfoldable pub place : (ℕ → ℕ) → (ℕ → ℕ) → ℕ → ℕ → ℕ �
 place next modulus p zero i = i
 place next modulus p (suc steps) i = cond (ltb (modulus (next i)) p) (place next modulus p steps (next i)) i
 
--- the pairs of a table in chain order
-unfoldable pub chain-pairs : Contents → List Pair
-chain-pairs t =
-    map (pair-in (rows (t .first) (t .records))) (walk (next-in (rows (t .first) (t .records))) (length (t .records)) 0)
+-- the pairs in chain order
+unfoldable pub pairs-along : ℕ → List Record → List Pair
+pairs-along first records = map (pair-in (rows first records)) (walk (next-in (rows first records)) (length records) 0)
+
+abbrev pub chain-pairs : Contents → List Pair
+chain-pairs t = pairs-along (t .first) (t .records)
 
 -- a pair put in its place among pairs in rising order of modulus
 unfoldable pub insert : Pair → List Pair → List Pair

@@ -1,10 +1,11 @@
 // Going along the chain. The head counts as record 0: what comes after it is the first record.
 ghost use mathlib.Core.Bool.{true};
 ghost use mathlib.Core.Path.{_≡_};
-ghost use Prim.Native.Nat.{_+_, _<_, _≤_};
+ghost use Prim.Native.Nat.{_<_, _≤_};
 ghost use lib.ListN.{length, getD, set};
+ghost use Rattle.std.specs.Finite.{nth};
 ghost use Rattle.std.specs.Of.Vec.{vec-items, vec-len, vec-cap};
-ghost use Rattle.table.specs.Chain.{chained, rows, row, next-in, modulus-in, pair-in, place, walk, relinked};
+ghost use Rattle.table.specs.Chain.{chained, rows, row, next-in, modulus-in, pairs-along, place, walk, relinked};
 use crate::pair::Pair;
 use crate::pair::Record;
 
@@ -13,7 +14,11 @@ pub(super) fn next_after(first: u32, records: &[Record], at: u32) -> u32
     requires { ⌜ at ≤ length (now records) ⌝ }
     ensures value { λ r. ⌜ r ≡ next-in (rows first (now (records .entry))) at ⌝ }
 {
-    if at == 0 { first } else { records[at as usize - 1].next }
+    if at == 0 {
+        first
+    } else {
+        records[at as usize - 1].next
+    }
 }
 
 // The record after which a pair of the modulus comes.
@@ -45,4 +50,33 @@ pub(super) fn relink(first: &mut u32, records: &mut Vec<Record>, at: u32, next: 
     } else {
         records[at as usize - 1].next = next;
     }
+}
+
+// The pair at that position of the chain, counted from 0.
+pub(super) fn pair_at(first: u32, records: &[Record], position: usize) -> Option<Pair>
+    requires { ⌜ chained first (now records) ≡ true ⌝ }
+    ensures value { λ r. ⌜ r ≡ nth (pairs-along first (now (records .entry))) position ⌝ }
+{
+    if position >= records.len() {
+        return None;
+    }
+    let number = number_at(first, records, position);
+    let record = records[number as usize - 1];
+    Some(Pair {
+        modulus: record.modulus,
+        generator: record.generator,
+    })
+}
+
+// The number of the record at that position of the chain.
+fn number_at(first: u32, records: &[Record], position: usize) -> u32
+    requires rising { ⌜ chained first (now records) ≡ true ⌝ }
+    requires within { ⌜ position < length (now records) ⌝ }
+    ensures value { λ r. ⌜ r ≡ getD (walk (next-in (rows first (now (records .entry)))) (length (now (records .entry))) 0) position 0 ⌝ }
+{
+    let mut at = first;
+    for _step in 0..position {
+        at = next_after(first, records, at);
+    }
+    at
 }

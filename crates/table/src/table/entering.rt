@@ -21,7 +21,11 @@ impl RecordTable {
         ensures made { λ r. ⌜ made r (λ t. contents t ≡ empty 2) ⌝ }
     {
         let records = Vec::with_capacity(heap, 1023)?;
-        Ok(RecordTable { first: 0, index: 2, records })
+        Ok(RecordTable {
+            first: 0,
+            index: 2,
+            records,
+        })
     }
 
     // Empties the table for an index.
@@ -48,7 +52,12 @@ impl RecordTable {
         let next = next_after(self.first, self.records.as_slice(), at);
         let number = self.records.len() as u32 + 1;
         relink(&mut self.first, &mut self.records, at, number);
-        self.records.push_reserved(Record { next, modulus, generator, residue: None });
+        self.records.push_reserved(Record {
+            next,
+            modulus,
+            generator,
+            residue: None,
+        });
         Ok(())
     }
 

@@ -2,9 +2,12 @@
 ghost use mathlib.Core.Path.{_≡_};
 ghost use Prim.Native.Nat.{_≤_};
 ghost use lib.ListN.{length};
-ghost use Rattle.table.specs.Chain.{numbered, number-of};
+ghost use Rattle.std.specs.Finite.{nth};
+ghost use Rattle.table.specs.Chain.{numbered, number-of, chain-pairs};
 ghost use Rattle.table.specs.Tables.{contents};
 use super::RecordTable;
+use super::chain::pair_at;
+use crate::pair::Pair;
 use crate::pair::Record;
 
 impl RecordTable {
@@ -36,6 +39,13 @@ impl RecordTable {
         ensures value { λ r. ⌜ r ≡ number-of (contents (now (self .entry)) .records) modulus ⌝ }
     {
         number_of(self.records.as_slice(), modulus)
+    }
+
+    // The pair at that position of the chain, counted from 0, in rising order of modulus; none past the last.
+    pub fn pair(&self, position: usize) -> Option<Pair>
+        ensures value { λ r. ⌜ r ≡ nth (chain-pairs (contents (now (self .entry)))) position ⌝ }
+    {
+        pair_at(self.first, self.records.as_slice(), position)
     }
 }
 

@@ -7,6 +7,7 @@ use Rattle.table.proofs.table.RecordTable.begin.Needs as need
 
 pub ghost-self : need.ghost-self
 ghost-self c =
-    let none = c .clear .ensures .items in
-    ( omega (arith, c .clear .ensures .capacity, c .args .self .now .room)
-    , (omega (arith, c .clear .ensures .len), (grind (arith, tells), (chained-none _ none, (every-none (record-fits (c .args .index)) _ none, tt)))))
+    let none = c .clear .ensures .items in (
+      omega (arith, c .clear .ensures .capacity, c .args .self .now .room),
+      (omega (arith, c .clear .ensures .len), (grind (arith, tells), (chained-none _ none, (every-none (record-fits (c .args .index)) _ none, tt)))),
+    )

@@ -71,14 +71,23 @@ ghost-self c =
     let mid = vec-items (c .relink .last .records) in
     let rs′ = vec-items (c .push-reserved .last .self) in
     let last : c .len .result + 1 ≡ suc (length rs) = omega (arith, c .len .ensures, t .records .ok .0) in
-    let put = pushed (t .first) rs (c .as-slice-2 .result .now) mid rs′ p g at (c .next-after-next .result) (c .as-slice-2 .ensures .value) (c .next-after-next .ensures .value) (c .push-reserved .ensures .items) in
-    ( omega (arith, c .push-reserved .ensures .capacity, c .relink .ensures .capacity, t .room)
-    , ( omega (arith, c .push-reserved .ensures .len, c .relink .ensures .len, passed .3, t .records .ok .0)
-      , ( t .stands
-        , ( linked-chain (t .first) (c .relink .last .first) rs mid rs′ p g at (c .len .result + 1) (t .rising) (passed .4) (positive p (passed .0)) here last (c .relink .ensures .linked) put
-          , ( linked-every (t .first) (c .relink .last .first) rs mid rs′ p g at (c .len .result + 1) (t .rising) (passed .4) (positive p (passed .0)) here last (c .relink .ensures .linked) put
-                (record-fits (t .index)) (blind (t .index)) (t .fits) (new-fits (t .index) p g (passed .0) (passed .1) (passed .2))
-            , tt)))))
+    let put = pushed (t .first) rs (c .as-slice-2 .result .now) mid rs′ p g at (c .next-after-next .result) (c .as-slice-2 .ensures .value) (c .next-after-next .ensures .value) (c .push-reserved .ensures .items) in (
+      omega (arith, c .push-reserved .ensures .capacity, c .relink .ensures .capacity, t .room),
+      (
+        omega (arith, c .push-reserved .ensures .len, c .relink .ensures .len, passed .3, t .records .ok .0),
+        (
+          t .stands,
+          (
+            linked-chain (t .first) (c .relink .last .first) rs mid rs′ p g at (c .len .result + 1) (t .rising) (passed .4) (positive p (passed .0)) here last (c .relink .ensures .linked) put,
+            (
+              linked-every (t .first) (c .relink .last .first) rs mid rs′ p g at (c .len .result + 1) (t .rising) (passed .4) (positive p (passed .0)) here last (c .relink .ensures .linked) put
+                  (record-fits (t .index)) (blind (t .index)) (t .fits) (new-fits (t .index) p g (passed .0) (passed .1) (passed .2)),
+              tt,
+            ),
+          ),
+        ),
+      ),
+    )
 
 pub returns : need.returns
 returns c =
@@ -94,9 +103,10 @@ returns c =
     let last : c .len .result + 1 ≡ suc (length rs) = omega (arith, c .len .ensures, t .records .ok .0) in
     let put = pushed (t .first) rs (c .as-slice-2 .result .now) mid rs′ p g at (c .next-after-next .result) (c .as-slice-2 .ensures .value) (c .next-after-next .ensures .value) (c .push-reserved .ensures .items) in
     record {
-        answer = c .in-Continue-admit .ensures tt .answer;
-        after =
-            ( refl
-            , linked-records (t .first) (c .relink .last .first) rs mid rs′ p g at (c .len .result + 1) (t .rising) (passed .4) (positive p (passed .0)) here last (c .relink .ensures .linked) put
-            , linked-pairs (t .first) (c .relink .last .first) rs mid rs′ p g at (c .len .result + 1) (t .rising) (passed .4) (positive p (passed .0)) here last (c .relink .ensures .linked) put (t .index))
+      answer = c .in-Continue-admit .ensures tt .answer;
+      after = (
+        refl,
+        linked-records (t .first) (c .relink .last .first) rs mid rs′ p g at (c .len .result + 1) (t .rising) (passed .4) (positive p (passed .0)) here last (c .relink .ensures .linked) put,
+        linked-pairs (t .first) (c .relink .last .first) rs mid rs′ p g at (c .len .result + 1) (t .rising) (passed .4) (positive p (passed .0)) here last (c .relink .ensures .linked) put,
+      );
     }

@@ -13,7 +13,7 @@ pub returns-then-number-eq0 : need.returns-then-number-eq0
 returns-then-number-eq0 c =
     let rs = vec-items (c .args .self .now .records) in
     elim (c .then-number-eq0 .came) [
-        then-number-eq0·by·then-number-eq0 w ↦ record { value = sym (numbered-zero rs (c .args .number) (w .if-number-eq0 .taken)) }
+      | then-number-eq0·by·then-number-eq0 w ↦ record { value = sym (numbered-zero rs (c .args .number) (w .if-number-eq0 .taken)) }
       | then-number-eq0·by·else-number-eq0·then-number-len w ↦
           record { value = sym (numbered-past rs (c .args .number) (omega (arith, w .len .ensures, w .if-number-len .taken, c .args .self .now .records .ok .0))) }
     ]
@@ -25,5 +25,5 @@ returns c =
     let low : 1 ≤ n = omega arith in
     let high : n ≤ length rs = omega (arith, c .len .ensures, c .args .self .now .records .ok .0) in
     record {
-        value = ap (λ (r : Record). Some r) (c .index .ensures) ∙ sym (numbered-at rs n (c .index .result .now) low high)
+      value = ap (λ (r : Record). Some r) (c .index .ensures) ∙ sym (numbered-at rs n (c .index .result .now) low high);
     }

@@ -59,7 +59,7 @@ index-records-next c =
 pub returns-then-records-next : need.returns-then-records-next
 returns-then-records-next c =
     record {
-        value = here (c .args .first) (c .args .records .now) (c .args .modulus) (c .loop-step .-step) (c .loop-step .at) (c .next-after-next .result) (c .next-after-next .ensures .value) (c .loop-step-test .taken) (c .loop-step .inv) (c .if-records-next .taken)
+      value = here (c .args .first) (c .args .records .now) (c .args .modulus) (c .loop-step .-step) (c .loop-step .at) (c .next-after-next .result) (c .next-after-next .ensures .value) (c .loop-step-test .taken) (c .loop-step .inv) (c .if-records-next .taken);
     }
 
 pub loop-step-again : need.loop-step-again
@@ -72,7 +72,7 @@ returns c =
     let n = length (c .args .records .now) in
     let none : n - c .loop-step .-step ≡ 0 = omega arith in
     record {
-        value =
-            reached-end (next-in rs) (modulus-in rs) n (c .args .modulus) (c .loop-step .at)
-            (subst (λ (left : ℕ). Reached (next-in rs) (modulus-in rs) n (c .args .modulus) left (c .loop-step .at)) none (c .loop-step .inv))
+      value =
+          reached-end (next-in rs) (modulus-in rs) n (c .args .modulus) (c .loop-step .at)
+          (subst (λ (left : ℕ). Reached (next-in rs) (modulus-in rs) n (c .args .modulus) left (c .loop-step .at)) none (c .loop-step .inv));
     }

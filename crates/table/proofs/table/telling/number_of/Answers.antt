@@ -11,10 +11,10 @@ returns-then-record-modulus c =
     let i = c .loop-i .i in
     let e : suc i ≡ i + 1 = omega arith in
     record {
-        value =
-            sym (c .loop-i .inv
-            ∙ number-here (c .args .records .now) (c .args .modulus) i (head 0) (c .loop-i-test .taken) (c .if-record-modulus .taken)
-            ∙ ap (λ (n : ℕ). Some n) e)
+      value =
+          sym (c .loop-i .inv
+          ∙ number-here (c .args .records .now) (c .args .modulus) i (head 0) (c .loop-i-test .taken) (c .if-record-modulus .taken)
+          ∙ ap (λ (n : ℕ). Some n) e);
     }
 
 pub loop-i-again : need.loop-i-again
@@ -25,5 +25,5 @@ loop-i-again c =
 pub returns : need.returns
 returns c =
     record {
-        value = sym (c .loop-i .inv ∙ number-past (c .args .records .now) (c .args .modulus) (c .loop-i .i) (c .loop-i-test .left))
+      value = sym (c .loop-i .inv ∙ number-past (c .args .records .now) (c .args .modulus) (c .loop-i .i) (c .loop-i-test .left));
     }
