@@ -1,5 +1,5 @@
 -- A table after a pair was linked into its chain and pushed behind its records.
--- Main statements: linked-chain, linked-pairs, linked-records, linked-every.
+-- Main statements: entered-every, linked-chain, linked-pairs, linked-records, linked-every.
 -- Assumes nothing.
 use mathlib.Core.Path.{_≡_, refl, sym, ap, subst, _∙_}
 use mathlib.Core.Bool.{Bool, true, _&&_}
@@ -31,6 +31,14 @@ unfolding every
 every-unlinked test blind [] = refl
 every-unlinked test blind (r ∷ rs) =
     ap (λ (b : Bool). b && every test (unlinked rs)) (blind r) ∙ ap (λ (b : Bool). test r && b) (every-unlinked test blind rs)
+
+-- entering a record that passes, after records that all pass
+pub entered-every : (test : Record → Bool) → ((r : Record) → test (relinked r 0) ≡ test r) → (rs rs′ : List Record) (p g : ℕ)
+    → unlinked rs′ ≡ unlinked rs ++ waiting-record 0 p g ∷ [] → every test rs ≡ true → test (waiting-record 0 p g) ≡ true → every test rs′ ≡ true
+entered-every test blind rs rs′ p g now all fits =
+    sym (every-unlinked test blind rs′)
+    ∙ ap (every test) now
+    ∙ every-push test (unlinked rs) (waiting-record 0 p g) (every-unlinked test blind rs ∙ all) fits
 
 -- the place of a modulus is a record, or the head
 pub place-within : (first : ℕ) (rs : List Record) (p at : ℕ) → chained first rs ≡ true → 0 < p
@@ -130,7 +138,4 @@ module _ (first first′ : ℕ) (rs mid rs′ : List Record) (p g at n : ℕ)
 
   pub linked-every : (test : Record → Bool) → ((r : Record) → test (relinked r 0) ≡ test r) → every test rs ≡ true
       → test (waiting-record 0 p g) ≡ true → every test rs′ ≡ true
-  linked-every test blind all fits =
-      sym (every-unlinked test blind rs′)
-      ∙ ap (every test) linked-records
-      ∙ every-push test (unlinked rs) (waiting-record 0 p g) (every-unlinked test blind rs ∙ all) fits
+  linked-every test blind all fits = entered-every test blind rs rs′ p g linked-records all fits

@@ -1,8 +1,9 @@
 -- The tests of an index, a modulus, a generator and a residue.
 -- Assumes nothing.
-use mathlib.Core.Bool.{Bool, true, _&&_}
+use mathlib.Core.Bool.{Bool, true, not, _&&_}
 use Prim.Native.Nat.{ℕ, _-_, _%_}
 use lib.Dec.{eqb, leb, ltb}
+use Rattle.std.specs.Options.{isSome}
 use Rattle.std.specs.declared.option.Option.{Option}
 use Rattle.std.specs.declared.option.Option.the-variants.{Some, None}
 use Rattle.table.specs.declared.pair.Record.{Record}
@@ -32,3 +33,7 @@ residue-fits p (Some v) = ltb v p
 unfoldable pub record-fits : ℕ → Record → Bool
 record-fits k r =
     modulus-fits (r .modulus) && generator-fits (r .modulus) (r .generator) && index-fits (r .modulus) k && residue-fits (r .modulus) (r .residue)
+
+-- a record waits for its residue
+abbrev pub record-waits : Record → Bool
+record-waits r = not (isSome (r .residue))

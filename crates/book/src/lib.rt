@@ -1,0 +1,4 @@
+// Listings of pairs.
+mod listing;
+
+pub use listing::Listing;
