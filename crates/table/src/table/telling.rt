@@ -24,6 +24,20 @@ impl RecordTable {
         self.records.len()
     }
 
+    // The number of the chain's first record, 0 where there is none.
+    pub fn first(&self) -> u32
+        ensures value { λ r. ⌜ r ≡ contents (now (self .entry)) .first ⌝ }
+    {
+        self.first
+    }
+
+    // All records, in order of their numbers.
+    pub fn records(&self) -> &[Record]
+        ensures value { λ r. ⌜ now r ≡ contents (now (self .entry)) .records ⌝ }
+    {
+        self.records.as_slice()
+    }
+
     // The record of that number, where there is one.
     pub fn record(&self, number: u32) -> Option<Record>
         ensures value { λ r. ⌜ r ≡ numbered (contents (now (self .entry)) .records) number ⌝ }
