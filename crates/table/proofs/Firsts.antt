@@ -3,7 +3,7 @@
 -- Assumes nothing.
 use mathlib.Core.Path.{_≡_, refl, sym, _∙_}
 use mathlib.Core.Bool.{Bool, true, false, not}
-use mathlib.Core.List.{List, [], _∷_}
+use mathlib.Core.List.{List, [], _∷_, _++_}
 use mathlib.Core.Logic.{⊎-elim}
 use Prim.Native.Nat.{ℕ, _<_}
 use native.Mathlib.Omega.{arith}
@@ -50,3 +50,20 @@ admitted t p g h =
       leb-false 1023 (length (t .records)) (all .1 .1 .1 .0),
       none-since (number-of (t .records) p) (all .1 .1 .1 .1 .0),
     )
+
+-- tests and then more tests
+pub first-found : {X : Type 0} (ts us : List (Bool × X)) (x : X) → firstOf ts ≡ Some x → firstOf (ts ++ us) ≡ Some x
+first-found [] us x h = absurd (let z : _≡_ {A = ℕ} 0 1 = cc in omega arith)
+first-found (t ∷ ts) us x h =
+    ⊎-elim
+    (λ (e : t .0 ≡ true). cond-true (t .0) (Some (t .1)) (firstOf (ts ++ us)) e ∙ sym (cond-true (t .0) (Some (t .1)) (firstOf ts) e) ∙ h)
+    (λ (e : t .0 ≡ false).
+    cond-false (t .0) (Some (t .1)) (firstOf (ts ++ us)) e
+    ∙ first-found ts us x (sym (cond-false (t .0) (Some (t .1)) (firstOf ts) e) ∙ h))
+    (cases-bool (t .0))
+
+pub first-past : {X : Type 0} (ts us : List (Bool × X)) → firstOf ts ≡ None → firstOf (ts ++ us) ≡ firstOf us
+first-past [] us h = refl
+first-past (t ∷ ts) us h =
+    let all = all-fail (t ∷ ts) h in
+    cond-false (t .0) (Some (t .1)) (firstOf (ts ++ us)) (all .0) ∙ first-past ts us (none-first ts (all .1))

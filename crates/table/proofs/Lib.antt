@@ -3,3 +3,4 @@ pub mod Chains
 pub mod Meetings
 pub mod Records
 pub mod Linked
+pub mod Judged

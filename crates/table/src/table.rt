@@ -1,6 +1,7 @@
 // The table itself, with the facts that every table keeps.
 mod chain;
 mod entering;
+mod restoring;
 mod telling;
 
 ghost use mathlib.Core.Bool.{true};
