@@ -19,15 +19,22 @@ use crate::pair::Record;
 use arithmetic::Refusal;
 
 impl RecordTable {
+    // As a new table: empty, with index 2.
+    pub fn reset(&mut self)
+        ensures after { λ _. ⌜ contents (now (self .exit)) ≡ empty 2 ⌝ }
+    {
+        self.records.clear();
+        self.first = 0;
+        self.index = 2;
+    }
+
     // Holds these records, of which none has a residue, with this first of the chain and this index. Where they have a
     // fault, the table is empty then, with index 2.
     pub fn restore(&mut self, first: u32, index: u32, records: &[Record]) -> Result<(), Fault>
         ensures answer { λ r. ⌜ errPart r ≡ firstOf (restore-tests first index (now (records .entry))) ⌝ }
         ensures after { λ r. ⌜ contents (now (self .exit)) ≡ cond (isOk r) (holding first index (now (records .entry))) (empty 2) ⌝ }
     {
-        self.records.clear();
-        self.first = 0;
-        self.index = 2;
+        self.reset();
         judge(first, index, records)?;
         copy_all(&mut self.records, records);
         self.first = first;
