@@ -24,7 +24,7 @@ use Rattle.table.specs.First.{firstOf}
 use Rattle.table.specs.Fitness.{index-stands, record-fits, record-waits, modulus-fits, generator-fits, index-fits, residue-fits}
 use Rattle.table.proofs.Chains.{Step, rises-step, rises-more, rises-end, rises-none}
 use Rattle.table.proofs.Firsts.{all-fail, none-first, first-found, first-past}
-use Rattle.table.proofs.Meetings.{of-each}
+use Rattle.table.proofs.Meetings.{of-each, next-within}
 use Rattle.table.proofs.Records.{every-from, every-at}
 
 -- a record without a fault, after one of the modulus `before`
@@ -166,3 +166,10 @@ restored first k rs h =
       not-false (index-stands k) (all .1 .0),
       sound-chain first k rs (none-first (chain-tests (rows first rs) k (length rs) (length rs) 0) (all .1 .1)),
     )
+
+-- records that a table holds, the numbers of their links and words included
+pub links-within : (first : ℕ) (rs : List Record) → chained first rs ≡ true → (first ≤ length rs) × ((i : ℕ) → i < length rs → getD rs i (head 0) .next ≤ length rs)
+unfolding chained
+links-within first rs up =
+    let within = next-within (next-in (rows first rs)) (modulus-in (rows first rs)) (length rs) up in
+    (within 0 (omega arith), λ i h. within (suc i) h)

@@ -1,5 +1,5 @@
 -- A chain that rises in as many steps as there are records meets each of them once.
--- Main statements: met-once, of-each, apart.
+-- Main statements: met-once, of-each, apart, next-within.
 -- Assumes nothing.
 use mathlib.Core.Path.{_≡_, refl, sym, ap, subst, _∙_}
 use mathlib.Core.Bool.{true, cond}
@@ -145,3 +145,16 @@ module _ (next modulus : ℕ → ℕ) (count : ℕ) where
   -- two records have two moduli
   pub apart : rises next modulus count count 0 ≡ true → (j k : ℕ) → 1 ≤ j → j ≤ count → 1 ≤ k → k ≤ count → modulus j ≡ modulus k → j ≡ k
   apart up j k a b c d e = one-of-two count 0 j k up (met-once 0 j up a b) (met-once 0 k up c d) e
+
+module _ (next modulus : ℕ → ℕ) (count : ℕ) where
+  links : (steps i : ℕ) → rises next modulus count steps i ≡ true → (next i ≤ count) × All (λ j. next j ≤ count) (walk next steps i)
+  unfolding walk
+  links zero i up = (omega (arith, rises-end next modulus count i up), tt)
+  links (suc steps) i up =
+      let step = rises-step next modulus count steps i up in
+      (step .0 .1, links steps (next i) (step .1))
+
+  -- every link leads to a record or ends the chain
+  pub next-within : rises next modulus count count 0 ≡ true → (i : ℕ) → i ≤ count → next i ≤ count
+  next-within up zero h = links count 0 up .0
+  next-within up (suc i) h = of-each next modulus count (λ j. next j ≤ count) up (links count 0 up .1) (suc i) (omega arith) h
