@@ -1,24 +1,31 @@
 -- Records decoded one after another, and decoding against encoding.
--- Main statements: records-more, encode-decode, decode-encode.
+-- Main statements: records-more, stored, encode-decode, held, judged.
 -- Assumes nothing.
 use mathlib.Core.Path.{_≡_, refl, sym, ap, subst, _∙_}
-use mathlib.Core.Bool.{Bool, true, false, cond}
+use mathlib.Core.Bool.{Bool, true, cond, not, _&&_}
 use mathlib.Core.List.{List, [], _∷_, _++_, append-assoc}
 use mathlib.Core.Logic.{⊎-elim}
 use Prim.Native.Nat.{ℕ, zero, suc, _+_, _-_, _*_, _/_, _%_, _≤_, _<_, _^_}
 use native.Mathlib.Omega.{arith}
-use lib.Dec.{eqb}
+use lib.Dec.{eqb, leb}
 use lib.ListN.{length, getD, set, take, drop, length-append, length-drop}
 use Rattle.std.specs.declared.option.Option.{Option}
 use Rattle.std.specs.declared.option.Option.the-variants.{Some, None}
 use Rattle.std.specs.shelf.Lists.{joined}
 use Rattle.std.proofs.shelf.Lists.{append-nil, drop-all, drop-at, drop-drop, drop-more, getD-drop, set-at}
 use Rattle.std.proofs.shelf.Bits.{div-mul-add, mod-mul-add}
-use Rattle.std.proofs.shelf.Tests.{and-parts, and-from, cases-eq, cond-true, cond-false, eq-eqb, ne-eqb, eqb-true, leb-true, le-leb}
+use Rattle.std.proofs.shelf.Tests.{and-parts, cases-eq, cond-true, cond-false, eq-eqb, ne-eqb, eqb-true, leb-true, le-ltb, not-from-true}
 use Rattle.table.specs.declared.pair.Record.{Record}
-use Rattle.table.specs.Chain.{Contents}
+use Rattle.arithmetic.specs.declared.refusal.Refusal.the-variants.{Index}
+use Rattle.table.specs.declared.fault.Fault.{Fault}
+use Rattle.table.specs.declared.fault.Layer.the-variants.{Job}
+use Rattle.table.specs.Chain.{Contents, rows}
+use Rattle.table.specs.Faults.{fault, chain-tests, restore-tests}
+use Rattle.table.specs.First.{firstOf}
+use Rattle.table.specs.Fitness.{index-stands}
+use Rattle.table.specs.Tables.{holding}
 use Rattle.file.specs.Layout.{word-bytes, row-bytes, residue-word, record-bytes, encode}
-use Rattle.file.specs.Reading.{word-at, residue-of, record-at, records-in, pair-count, decode, length-fits, head-fits}
+use Rattle.file.specs.Reading.{word-at, residue-of, record-at, records-in, pair-count, decode, length-fits, head-fits, read-tests}
 
 pub length-records-in : (n : ℕ) (bytes : List ℕ) → length (records-in n bytes) ≡ n
 unfolding records-in
@@ -164,3 +171,24 @@ encode-decode xs bytes long head =
     ∙ ap (λ (k : ℕ). row-bytes (word-at xs 0) (word-at xs 4) (word-at xs 8) k ++ rest) zeros
     ∙ ap (λ (ys : List ℕ). row-bytes (word-at xs 0) (word-at xs 4) (word-at xs 8) (word-at xs 12) ++ ys) body
     ∙ row-over xs bytes some
+
+-- the table that was put together is the one in the bytes
+pub held : (xs rest : List ℕ) (first index n : ℕ) → first ≡ word-at xs 0 → index ≡ word-at xs 4 → rest ≡ drop 16 xs → n ≡ pair-count xs
+    → holding first index (records-in n rest) ≡ decode xs
+unfolding decode
+held xs rest first index n a b c d = λ i. record { first = a i; index = b i; records = records-in (d i) (c i) }
+
+-- what is left of the tests, once length and head fit
+left-tests : Contents → ℕ → List (Bool × Fault)
+left-tests t n = (not (index-stands (t .index)), fault 0 (Job Index)) ∷ chain-tests (rows (t .first) (t .records)) (t .index) n n 0
+
+-- and the tests that the table made are those of the bytes
+pub judged : (xs : List ℕ) (first index : ℕ) (rs : List Record) → length-fits (length xs) ≡ true → head-fits xs ≡ true
+    → holding first index rs ≡ decode xs → length rs ≡ pair-count xs → firstOf (restore-tests first index rs) ≡ firstOf (read-tests xs)
+unfolding left-tests
+judged xs first index rs long head same count =
+    let top = leb-true (length xs) 16384 (and-parts (eqb (length xs % 16) 0 && leb 16 (length xs)) (leb (length xs) 16384) long .1) in
+    cond-false _ _ _ (le-ltb 1023 (length rs) (omega (arith, top)))
+    ∙ ap (λ (n : ℕ). firstOf (left-tests (holding first index rs) n)) count
+    ∙ ap (λ (t : Contents). firstOf (left-tests t (pair-count xs))) same
+    ∙ sym (cond-false _ _ _ (not-from-true (length-fits (length xs)) long) ∙ cond-false _ _ _ (not-from-true (head-fits xs) head))

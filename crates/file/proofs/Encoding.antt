@@ -149,8 +149,8 @@ worded-from k r next fits waits =
     let a = and-parts _ _ fits in
     let b = and-parts _ _ (a .0) in
     let c = and-parts _ _ (b .0) in
-    let top = leb-true (r .modulus) 2147483647 (and-parts _ _ (c .0) .1) in
-    let under = leb-true (r .generator) (r .modulus - 1) (and-parts _ _ (c .1) .1) in
+    let top : r .modulus ≤ 2147483647 = leb-true (r .modulus) 2147483647 (and-parts _ _ (c .0) .1) in
+    let under : r .generator ≤ r .modulus - 1 = leb-true (r .generator) (r .modulus - 1) (and-parts _ _ (c .1) .1) in
     (next, omega arith, omega arith, none-from (r .residue) waits)
 
 -- what a table holds is made of words
@@ -158,7 +158,7 @@ pub word-table : (t : Contents) → length (t .records) ≤ 1023 → index-stand
 word-table t few stands sound =
     let rs = t .records in
     let links = links-within (t .first) rs (sound .0) in
-    let top = leb-true (t .index) 2147483646 (and-parts _ _ stands .1) in (
+    let top : t .index ≤ 2147483646 = leb-true (t .index) 2147483646 (and-parts _ _ stands .1) in (
       omega (arith, links .0),
       omega arith,
       omega arith,

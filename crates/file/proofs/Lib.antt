@@ -1,3 +1,3 @@
 mod Placing
-mod Decoding
-mod Encoding
+pub mod Decoding
+pub mod Encoding

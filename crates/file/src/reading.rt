@@ -7,7 +7,8 @@ ghost use lib.ListN.{length, drop};
 ghost use Rattle.std.specs.Options.{Cases};
 ghost use Rattle.std.specs.Results.{errPart, isOk};
 ghost use Rattle.table.specs.First.{firstOf};
-ghost use Rattle.table.specs.Tables.{contents, empty};
+ghost use Rattle.table.specs.Faults.{restore-tests};
+ghost use Rattle.table.specs.Tables.{contents, empty, holding};
 ghost use Rattle.file.specs.Reading.{word-at, residue-of, records-in, decode, read-tests};
 use table::Damage;
 use table::Fault;
@@ -59,9 +60,24 @@ pub fn read(table: &mut RecordTable, bytes: &[u8]) -> Result<(), Fault>
             layer: Layer::File(Damage::Head),
         });
     }
+    hold(table, first, index, count, rest)
+}
+
+fn hold(
+    table: &mut RecordTable,
+    first: u32,
+    index: u32,
+    count: usize,
+    bytes: &[u8],
+) -> Result<(), Fault>
+    requires few { ⌜ count ≤ 1023 ⌝ }
+    requires enough { ⌜ 16 * count ≤ length (now bytes) ⌝ }
+    ensures answer { λ r. ⌜ errPart r ≡ firstOf (restore-tests first index (records-in count (now (bytes .entry)))) ⌝ }
+    ensures after { λ r. ⌜ contents (now (table .exit)) ≡ cond (isOk r) (holding first index (records-in count (now (bytes .entry)))) (empty 2) ⌝ }
+{
     let mut room = [BLANK; 1023];
     let records = &mut room[0..count];
-    take_records(records, rest);
+    take_records(records, bytes);
     table.restore(first, index, records)
 }
 
