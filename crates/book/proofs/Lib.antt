@@ -1,1 +1,2 @@
 mod Waiting
+mod Files

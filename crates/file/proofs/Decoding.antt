@@ -1,5 +1,5 @@
 -- Records decoded one after another, and decoding against encoding.
--- Main statements: records-more, stored, encode-decode, held, judged.
+-- Main statements: records-more, stored, encode-decode, held, judged, read-sound.
 -- Assumes nothing.
 use mathlib.Core.Path.{_≡_, refl, sym, ap, subst, _∙_}
 use mathlib.Core.Bool.{Bool, true, cond, not, _&&_}
@@ -14,7 +14,7 @@ use Rattle.std.specs.declared.option.Option.the-variants.{Some, None}
 use Rattle.std.specs.shelf.Lists.{joined}
 use Rattle.std.proofs.shelf.Lists.{append-nil, drop-all, drop-at, drop-drop, drop-more, getD-drop, set-at}
 use Rattle.std.proofs.shelf.Bits.{div-mul-add, mod-mul-add}
-use Rattle.std.proofs.shelf.Tests.{and-parts, cases-eq, cond-true, cond-false, eq-eqb, ne-eqb, eqb-true, leb-true, le-ltb, not-from-true}
+use Rattle.std.proofs.shelf.Tests.{and-parts, cases-eq, cond-true, cond-false, eq-eqb, ne-eqb, eqb-true, leb-true, le-ltb, not-false, not-from-true}
 use Rattle.table.specs.declared.pair.Record.{Record}
 use Rattle.arithmetic.specs.declared.refusal.Refusal.the-variants.{Index}
 use Rattle.table.specs.declared.fault.Fault.{Fault}
@@ -24,6 +24,8 @@ use Rattle.table.specs.Faults.{fault, chain-tests, restore-tests}
 use Rattle.table.specs.First.{firstOf}
 use Rattle.table.specs.Fitness.{index-stands}
 use Rattle.table.specs.Tables.{holding}
+use Rattle.table.proofs.Firsts.{all-fail, none-first}
+use Rattle.table.proofs.Judged.{Sound, sound-chain}
 use Rattle.file.specs.Layout.{word-bytes, row-bytes, residue-word, record-bytes, encode}
 use Rattle.file.specs.Reading.{word-at, residue-of, record-at, records-in, pair-count, decode, length-fits, head-fits, read-tests}
 
@@ -192,3 +194,18 @@ judged xs first index rs long head same count =
     ∙ ap (λ (n : ℕ). firstOf (left-tests (holding first index rs) n)) count
     ∙ ap (λ (t : Contents). firstOf (left-tests t (pair-count xs))) same
     ∙ sym (cond-false _ _ _ (not-from-true (length-fits (length xs)) long) ∙ cond-false _ _ _ (not-from-true (head-fits xs) head))
+
+-- bytes without a fault: length and head fit, and the table in them is one that may be held
+pub read-sound : (xs : List ℕ) → firstOf (read-tests xs) ≡ None
+    → (length-fits (length xs) ≡ true) × (head-fits xs ≡ true) × Sound (decode xs .first) (decode xs .index) (decode xs .records)
+unfolding decode
+read-sound xs h =
+    let all = all-fail (read-tests xs) h in
+    let n = pair-count xs in
+    let rs = records-in n (drop 16 xs) in
+    let count : n ≡ length rs = sym (length-records-in n (drop 16 xs)) in
+    let tests : ℕ → List (Bool × Fault) = λ k. chain-tests (rows (word-at xs 0) rs) (word-at xs 4) k k 0 in (
+      not-false (length-fits (length xs)) (all .0),
+      not-false (head-fits xs) (all .1 .0),
+      sound-chain (word-at xs 0) (word-at xs 4) rs (ap (λ (k : ℕ). firstOf (tests k)) (sym count) ∙ none-first (tests n) (all .1 .1 .1)),
+    )

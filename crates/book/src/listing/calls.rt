@@ -5,15 +5,19 @@ ghost use lib.ListN.{length};
 ghost use Rattle.std.specs.Finite.{nth};
 ghost use Rattle.std.specs.Results.{errPart, isOk};
 ghost use Rattle.std.specs.Vec.{made};
+ghost use Rattle.file.specs.Layout.{encode};
+ghost use Rattle.file.specs.Reading.{decode, read-tests};
+ghost use Rattle.line.specs.Output.{PutOut};
 ghost use Rattle.table.specs.Chain.{chain-pairs};
 ghost use Rattle.table.specs.Entering.{begin-causes, enter-causes, Entered};
 ghost use Rattle.table.specs.First.{firstOf};
 ghost use Rattle.table.specs.Tables.{empty};
-ghost use Rattle.book.specs.Listings.{listing};
+ghost use Rattle.book.specs.Listings.{listing, WrittenAgain, FoundAgain};
 use super::Listing;
 use arithmetic::Refusal;
 use std::alloc::AllocError;
 use std::alloc::Global;
+use table::Fault;
 use table::Pair;
 use table::RecordTable;
 
@@ -60,5 +64,22 @@ impl Listing {
         ensures value { λ r. ⌜ r ≡ nth (chain-pairs (listing (now (self .entry)))) position ⌝ }
     {
         self.table.pair(position)
+    }
+
+    // Puts the listing out as a file, head and pairs.
+    pub fn write(&self, output: &mut [u8]) -> Result<usize, Refusal>
+        ensures puts { λ r. ⌜ PutOut (encode (listing (now (self .entry)))) (now (output .entry)) (now (output .exit)) r ⌝ }
+    {
+        file::write(&self.table, output)
+    }
+
+    // Reads a file, any bytes. Where they have a fault, the listing is empty then, with index 2.
+    pub fn read(&mut self, bytes: &[u8]) -> Result<(), Fault>
+        ensures answer { λ r. ⌜ errPart r ≡ firstOf (read-tests (now (bytes .entry))) ⌝ }
+        ensures after { λ r. ⌜ listing (now (self .exit)) ≡ cond (isOk r) (decode (now (bytes .entry))) (empty 2) ⌝ }
+        ensures written { λ r. ⌜ WrittenAgain (now (bytes .entry)) (listing (now (self .exit))) r ⌝ }
+        ensures found { λ r. ⌜ FoundAgain (now (bytes .entry)) (listing (now (self .exit))) r ⌝ }
+    {
+        file::read(&mut self.table, bytes)
     }
 }
