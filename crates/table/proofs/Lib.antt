@@ -4,3 +4,4 @@ pub mod Meetings
 pub mod Records
 pub mod Linked
 pub mod Judged
+pub mod Fills

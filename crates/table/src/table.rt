@@ -1,6 +1,7 @@
 // The table itself, with the facts that every table keeps.
 mod chain;
 mod entering;
+mod filling;
 mod restoring;
 mod telling;
 
