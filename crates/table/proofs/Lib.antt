@@ -5,3 +5,4 @@ pub mod Records
 pub mod Linked
 pub mod Judged
 pub mod Fills
+pub mod Listed

@@ -2,7 +2,9 @@
 -- Assumes nothing.
 use mathlib.Core.Bool.{Bool, true, cond, _&&_}
 use mathlib.Core.List.{List, [], _∷_, map}
-use Prim.Native.Nat.{ℕ, zero, suc}
+use mathlib.Core.Logic.{_≢_, _↔_}
+use mathlib.Core.Path.{_≡_}
+use Prim.Native.Nat.{ℕ, zero, suc, _<_}
 use lib.Dec.{eqb, leb, ltb}
 use lib.ListN.{length, getD}
 use Rattle.std.specs.Finite.{nth}
@@ -88,6 +90,11 @@ number-of rs p = number-from 1 rs p
 
 abbrev pub listed : List Record → ℕ → Bool
 listed rs p = isSome (number-of rs p)
+
+-- the record numbered n is the one with the modulus p, or there is none
+abbrev pub Only : List Record → ℕ → Option ℕ → Type 0
+Only rs p None = (i : ℕ) → i < length rs → getD rs i (head 0) .modulus ≢ p
+Only rs p (Some n) = (i : ℕ) → i < length rs → (getD rs i (head 0) .modulus ≡ p) ↔ (suc i ≡ n)
 
 -- a record with another next
 abbrev pub relinked : Record → ℕ → Record

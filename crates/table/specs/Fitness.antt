@@ -6,6 +6,7 @@ use lib.Dec.{eqb, leb, ltb}
 use Rattle.std.specs.Options.{isSome}
 use Rattle.std.specs.declared.option.Option.{Option}
 use Rattle.std.specs.declared.option.Option.the-variants.{Some, None}
+use Rattle.theory.specs.Pairs.{Fit}
 use Rattle.table.specs.declared.pair.Record.{Record}
 
 -- an index that some pair can serve: even, and from 2 to 2147483646
@@ -37,3 +38,8 @@ record-fits k r =
 -- a record waits for its residue
 abbrev pub record-waits : Record → Bool
 record-waits r = not (isSome (r .residue))
+
+-- the pair of the record, where there is one, is fit for the index k
+abbrev pub PairFits : ℕ → Option Record → Type 0
+PairFits k None = Unit {0}
+PairFits k (Some r) = Fit k (r .modulus) (r .generator)

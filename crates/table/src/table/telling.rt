@@ -3,7 +3,8 @@ ghost use mathlib.Core.Path.{_≡_};
 ghost use Prim.Native.Nat.{_≤_};
 ghost use lib.ListN.{length};
 ghost use Rattle.std.specs.Finite.{nth};
-ghost use Rattle.table.specs.Chain.{numbered, number-of, chain-pairs};
+ghost use Rattle.table.specs.Chain.{numbered, number-of, Only, chain-pairs};
+ghost use Rattle.table.specs.Fitness.{PairFits};
 ghost use Rattle.table.specs.Tables.{contents};
 use super::RecordTable;
 use super::chain::pair_at;
@@ -41,6 +42,7 @@ impl RecordTable {
     // The record of that number, where there is one.
     pub fn record(&self, number: u32) -> Option<Record>
         ensures value { λ r. ⌜ r ≡ numbered (contents (now (self .entry)) .records) number ⌝ }
+        ensures fit { λ r. ⌜ PairFits (contents (now (self .entry)) .index) r ⌝ }
     {
         if number == 0 || number as usize > self.records.len() {
             return None;
@@ -51,6 +53,7 @@ impl RecordTable {
     // The number of the record that has the modulus, where it is listed.
     pub fn find(&self, modulus: u32) -> Option<u32>
         ensures value { λ r. ⌜ r ≡ number-of (contents (now (self .entry)) .records) modulus ⌝ }
+        ensures only { λ r. ⌜ Only (contents (now (self .entry)) .records) modulus r ⌝ }
     {
         number_of(self.records.as_slice(), modulus)
     }
