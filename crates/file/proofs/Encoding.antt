@@ -2,12 +2,12 @@
 -- Main statements: decode-encode, listing-read.
 -- Assumes nothing.
 use mathlib.Core.Path.{_≡_, refl, sym, ap, subst, _∙_}
-use mathlib.Core.Bool.{Bool, true, false, cond, not}
+use mathlib.Core.Bool.{Bool, true, not, _&&_}
 use mathlib.Core.List.{List, [], _∷_, _++_}
-use mathlib.Core.Logic.{⊎-elim, _≢_}
 use Prim.Native.Nat.{ℕ, zero, suc, _+_, _-_, _*_, _/_, _%_, _≤_, _<_, _^_}
 use native.Mathlib.Nat.{mod-add-div, mod-eq-of-lt, div-div-eq-div-mul}
 use native.Mathlib.Omega.{arith}
+use lib.Dec.{eqb, leb}
 use lib.ListN.{length, getD, drop}
 use Rattle.std.specs.declared.option.Option.{Option}
 use Rattle.std.specs.declared.option.Option.the-variants.{Some, None}
@@ -24,6 +24,7 @@ use Rattle.table.specs.First.{firstOf}
 use Rattle.table.specs.Fitness.{index-stands, record-fits, record-waits}
 use Rattle.table.proofs.Firsts.{all-fail, none-first}
 use Rattle.table.proofs.Judged.{Sound, chain-sound, links-within}
+use Rattle.table.proofs.Listed.{pair-fits}
 use Rattle.table.proofs.Records.{every-at}
 use Rattle.file.specs.Layout.{word-bytes, row-bytes, residue-word, record-bytes, encode}
 use Rattle.file.specs.Reading.{word-at, residue-of, record-at, records-in, pair-count, decode, length-fits, head-fits, read-tests}
@@ -143,28 +144,23 @@ none-from : (o : Option ℕ) → not (isSome o) ≡ true → o ≡ None
 none-from None h = refl
 none-from (Some x) h = absurd (let z : _≡_ {A = ℕ} 0 1 = cc in omega arith)
 
-worded-from : (k : ℕ) (r : Record) → r .next < 2 ^ 32 → record-fits k r ≡ true → record-waits r ≡ true → Worded r
-unfolding record-fits
-worded-from k r next fits waits =
-    let a = and-parts _ _ fits in
-    let b = and-parts _ _ (a .0) in
-    let c = and-parts _ _ (b .0) in
-    let top : r .modulus ≤ 2147483647 = leb-true (r .modulus) 2147483647 (and-parts _ _ (c .0) .1) in
-    let under : r .generator ≤ r .modulus - 1 = leb-true (r .generator) (r .modulus - 1) (and-parts _ _ (c .1) .1) in
-    (next, omega arith, omega arith, none-from (r .residue) waits)
+worded-from : (k : ℕ) (r : Record) → index-stands k ≡ true → r .next < 2 ^ 32 → record-fits k r ≡ true → record-waits r ≡ true → Worded r
+worded-from k r stands next fits waits =
+    let fit = pair-fits k r stands fits in
+    (next, omega (arith, fit .0 .2), omega (arith, fit .0 .2, fit .1 .1), none-from (r .residue) waits)
 
 -- what a table holds is made of words
 pub word-table : (t : Contents) → length (t .records) ≤ 1023 → index-stands (t .index) ≡ true → Sound (t .first) (t .index) (t .records) → WordTable t
 word-table t few stands sound =
     let rs = t .records in
     let links = links-within (t .first) rs (sound .0) in
-    let top : t .index ≤ 2147483646 = leb-true (t .index) 2147483646 (and-parts _ _ stands .1) in (
+    let top = leb-true (t .index) 2147483646 (and-parts (eqb (t .index % 2) 0 && leb 2 (t .index)) (leb (t .index) 2147483646) stands .1) in (
       omega (arith, links .0),
       omega arith,
       omega arith,
       all-from-getD Worded rs (head 0)
           (λ i h.
-          worded-from (t .index) (getD rs i (head 0)) (omega (arith, links .1 i h)) (every-at (record-fits (t .index)) rs i (head 0) (sound .1) h)
+          worded-from (t .index) (getD rs i (head 0)) stands (omega (arith, links .1 i h)) (every-at (record-fits (t .index)) rs i (head 0) (sound .1) h)
           (every-at record-waits rs i (head 0) (sound .2) h)),
     )
 

@@ -7,14 +7,12 @@ use lib.Dec.{eqb, leb}
 use lib.ListN.{length, getD, drop}
 use Rattle.std.specs.declared.option.Option.{Option}
 use Rattle.std.specs.declared.option.Option.the-variants.{Some, None}
-use Rattle.arithmetic.specs.declared.refusal.Refusal.the-variants.{Index}
 use Rattle.table.specs.declared.fault.Damage.the-variants.{Length, Head}
 use Rattle.table.specs.declared.fault.Fault.{Fault}
-use Rattle.table.specs.declared.fault.Layer.the-variants.{File, Job}
+use Rattle.table.specs.declared.fault.Layer.the-variants.{File}
 use Rattle.table.specs.declared.pair.Record.{Record}
-use Rattle.table.specs.Chain.{Contents, rows}
-use Rattle.table.specs.Faults.{fault, chain-tests}
-use Rattle.table.specs.Fitness.{index-stands}
+use Rattle.table.specs.Chain.{Contents}
+use Rattle.table.specs.Faults.{fault, job-tests}
 
 -- the word whose lowest byte stands at i
 unfoldable pub word-at : List ℕ → ℕ → ℕ
@@ -49,9 +47,9 @@ length-fits n = eqb (n % 16) 0 && leb 16 n && leb n 16384
 abbrev pub head-fits : List ℕ → Bool
 head-fits bytes = eqb (word-at bytes 8) (pair-count bytes) && eqb (word-at bytes 12) 0
 
+-- length and head, then the index, then the records along the chain
 abbrev pub read-tests : List ℕ → List (Bool × Fault)
 read-tests bytes =
     (not (length-fits (length bytes)), fault 0 (File Length))
     ∷ (not (head-fits bytes), fault 0 (File Head))
-    ∷ (not (index-stands (decode bytes .index)), fault 0 (Job Index))
-    ∷ chain-tests (rows (decode bytes .first) (decode bytes .records)) (decode bytes .index) (pair-count bytes) (pair-count bytes) 0
+    ∷ job-tests (decode bytes .first) (decode bytes .index) (decode bytes .records) (pair-count bytes)

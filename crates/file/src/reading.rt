@@ -10,13 +10,12 @@ ghost use Rattle.table.specs.First.{firstOf};
 ghost use Rattle.table.specs.Faults.{restore-tests};
 ghost use Rattle.table.specs.Tables.{contents, empty, holding};
 ghost use Rattle.file.specs.Reading.{word-at, residue-of, records-in, decode, read-tests};
+use crate::writing::EMPTY_MARK;
 use table::Damage;
 use table::Fault;
 use table::Layer;
 use table::Record;
 use table::RecordTable;
-
-const EMPTY_MARK: u32 = 4294967295;
 
 const BLANK: Record = Record {
     next: 0,

@@ -12,7 +12,7 @@ use table::Record;
 use table::RecordTable;
 
 // What stands for the residue of a record that waits.
-const EMPTY_MARK: u32 = 4294967295;
+pub(crate) const EMPTY_MARK: u32 = 4294967295;
 
 pub fn write(table: &RecordTable, output: &mut [u8]) -> Result<usize, Refusal>
     ensures puts { λ r. ⌜ PutOut (encode (contents (now (table .entry)))) (now (output .entry)) (now (output .exit)) r ⌝ }

@@ -18,14 +18,18 @@ use Rattle.table.specs.Fitness.{index-stands, modulus-fits, generator-fits, in
 abbrev pub begin-causes : ℕ → List (Bool × Refusal)
 begin-causes k = (not (index-stands k), Index) ∷ []
 
-abbrev pub enter-causes : Contents → ℕ → ℕ → List (Bool × Refusal)
-enter-causes t p g =
+-- a pair for the index k, by itself
+abbrev pub pair-causes : ℕ → ℕ → ℕ → List (Bool × Refusal)
+pair-causes k p g =
     (not (modulus-fits p), Modulus)
     ∷ (not (generator-fits p g), Generator)
-    ∷ (not (index-fits p (t .index)), IndexAboveModulus)
-    ∷ (leb 1023 (length (t .records)), ListingFull)
-    ∷ (listed (t .records) p, AlreadyListed)
+    ∷ (not (index-fits p k), IndexAboveModulus)
     ∷ []
+
+-- a pair for a table
+abbrev pub enter-causes : Contents → ℕ → ℕ → List (Bool × Refusal)
+enter-causes t p g =
+    pair-causes (t .index) p g ++ (leb 1023 (length (t .records)), ListingFull) ∷ (listed (t .records) p, AlreadyListed) ∷ []
 
 -- a record of the pair (p, g) that waits, linked to the record n
 abbrev pub waiting-record : ℕ → ℕ → ℕ → Record

@@ -10,6 +10,8 @@ use super::RecordTable;
 use super::chain::next_after;
 use super::chain::place_of;
 use super::chain::relink;
+use crate::fitness::judge_index;
+use crate::fitness::judge_pair;
 use crate::pair::Record;
 use arithmetic::Refusal;
 use std::alloc::AllocError;
@@ -33,9 +35,7 @@ impl RecordTable {
         ensures answer { λ r. ⌜ errPart r ≡ firstOf (begin-causes index) ⌝ }
         ensures after { λ r. ⌜ contents (now (self .exit)) ≡ cond (isOk r) (empty index) (contents (now (self .entry))) ⌝ }
     {
-        if index % 2 == 1 || index < 2 || index > 2147483646 {
-            return Err(Refusal::Index);
-        }
+        judge_index(index)?;
         self.records.clear();
         self.first = 0;
         self.index = index;
@@ -64,15 +64,7 @@ impl RecordTable {
     fn admit(&self, modulus: u32, generator: u32) -> Result<(), Refusal>
         ensures answer { λ r. ⌜ errPart r ≡ firstOf (enter-causes (contents (now (self .entry))) modulus generator) ⌝ }
     {
-        if modulus % 2 == 0 || modulus < 5 || modulus > 2147483647 {
-            return Err(Refusal::Modulus);
-        }
-        if generator < 2 || generator > modulus - 1 {
-            return Err(Refusal::Generator);
-        }
-        if self.index > modulus - 3 {
-            return Err(Refusal::IndexAboveModulus);
-        }
+        judge_pair(self.index, modulus, generator)?;
         if self.records.len() >= 1023 {
             return Err(Refusal::ListingFull);
         }

@@ -15,8 +15,9 @@ use super::chain::next_after;
 use crate::fault::Damage;
 use crate::fault::Fault;
 use crate::fault::Layer;
+use crate::fitness::judge_index;
+use crate::fitness::judge_pair;
 use crate::pair::Record;
-use arithmetic::Refusal;
 
 impl RecordTable {
     // As a new table: empty, with index 2.
@@ -63,10 +64,10 @@ fn judge(first: u32, index: u32, records: &[Record]) -> Result<(), Fault>
             layer: Layer::File(Damage::Length),
         });
     }
-    if index % 2 == 1 || index < 2 || index > 2147483646 {
+    if let Err(refusal) = judge_index(index) {
         return Err(Fault {
             record: 0,
-            layer: Layer::Job(Refusal::Index),
+            layer: Layer::Job(refusal),
         });
     }
     judge_chain(first, index, records)
@@ -109,22 +110,10 @@ fn judge_record(index: u32, before: u32, number: u32, record: Record) -> Result<
             layer: Layer::File(Damage::Residue),
         });
     }
-    if record.modulus % 2 == 0 || record.modulus < 5 || record.modulus > 2147483647 {
+    if let Err(refusal) = judge_pair(index, record.modulus, record.generator) {
         return Err(Fault {
             record: number,
-            layer: Layer::Job(Refusal::Modulus),
-        });
-    }
-    if record.generator < 2 || record.generator > record.modulus - 1 {
-        return Err(Fault {
-            record: number,
-            layer: Layer::Job(Refusal::Generator),
-        });
-    }
-    if index > record.modulus - 3 {
-        return Err(Fault {
-            record: number,
-            layer: Layer::Job(Refusal::IndexAboveModulus),
+            layer: Layer::Job(refusal),
         });
     }
     Ok(())
