@@ -57,7 +57,7 @@ unfoldable pub walk : (ℕ → ℕ) → ℕ → ℕ → List ℕ
 walk next zero i = []
 walk next (suc steps) i = next i ∷ walk next steps (next i)
 
--- the last record on the chain, from a record on, whose next has no modulus below p: a pair of the modulus p comes after it
+-- the record after which a pair of the modulus p comes: from a record on, the last that is met before a modulus of p or more
 unfoldable pub place : (ℕ → ℕ) → (ℕ → ℕ) → ℕ → ℕ → ℕ → ℕ
 place next modulus p zero i = i
 place next modulus p (suc steps) i = cond (ltb (modulus (next i)) p) (place next modulus p steps (next i)) i
@@ -91,7 +91,7 @@ number-of rs p = number-from 1 rs p
 abbrev pub listed : List Record → ℕ → Bool
 listed rs p = isSome (number-of rs p)
 
--- the record numbered n is the one with the modulus p, or there is none
+-- the record numbered n has the modulus p, and no other record; or none has it
 abbrev pub Only : List Record → ℕ → Option ℕ → Type 0
 Only rs p None = (i : ℕ) → i < length rs → getD rs i (head 0) .modulus ≢ p
 Only rs p (Some n) = (i : ℕ) → i < length rs → (getD rs i (head 0) .modulus ≡ p) ↔ (suc i ≡ n)
