@@ -1,0 +1,3 @@
+// Tests of listings, their files and the lines.
+#[cfg(test)]
+mod tests;

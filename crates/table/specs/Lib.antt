@@ -1,0 +1,8 @@
+pub mod First
+pub mod Fitness
+pub mod Chain
+pub mod Entering
+pub mod Tables
+pub mod Numbers
+pub mod Faults
+pub mod Filling
