@@ -1,33 +1,52 @@
--- The first cause of a list in two parts.
--- Main statements: first-cause-none-append, first-cause-some-append.
+-- The first cause that holds, test by test.
+-- Main statements: all-fail, none-first, first-found, first-past.
 -- Assumes nothing.
-use mathlib.Core.Bool.{Bool, true, false, cond}
+use mathlib.Core.Path.{_≡_, refl, sym, _∙_}
+use mathlib.Core.Bool.{Bool, true, false}
 use mathlib.Core.List.{List, [], _∷_, _++_}
-use mathlib.Core.Path.{_≡_}
+use mathlib.Core.Logic.{⊎-elim}
 use Prim.Native.Nat.{ℕ}
 use native.Mathlib.Omega.{arith}
+use Rattle.std.specs.Options.{isSome}
 use Rattle.std.specs.declared.option.Option.{Option}
 use Rattle.std.specs.declared.option.Option.the-variants.{Some, None}
-use Rattle.arithmetic.specs.declared.refusal.Refusal.{Refusal}
+use Rattle.std.proofs.shelf.Tests.{cond-true, cond-false, cases-bool}
+use Rattle.std.specs.shelf.Lists.{All}
 use Rattle.arithmetic.specs.Causes.{first-cause}
 
-some-is-not-none : {e : Refusal} → _≡_ {A = Option Refusal} (Some e) None → ⊥
-some-is-not-none h = let z : _≡_ {A = ℕ} 0 1 = cc in omega arith
+-- where no cause holds, every test is false
+pub all-fail : {X : Type 0} (ts : List (Bool × X)) → first-cause ts ≡ None → All (λ t. t .0 ≡ false) ts
+all-fail [] h = tt
+all-fail (t ∷ ts) h =
+    ⊎-elim
+    (λ (e : t .0 ≡ true).
+    let found : Some (t .1) ≡ None = sym (cond-true (t .0) (Some (t .1)) (first-cause ts) e) ∙ h in
+    absurd (let z : _≡_ {A = ℕ} 0 1 = cc in omega arith))
+    (λ (e : t .0 ≡ false). (e, all-fail ts (sym (cond-false (t .0) (Some (t .1)) (first-cause ts) e) ∙ h)))
+    (cases-bool (t .0))
 
--- where no cause of the first part holds, the second part decides
-pub first-cause-none-append : (xs ys : List (Bool × Refusal)) → first-cause xs ≡ None → first-cause (xs ++ ys) ≡ first-cause ys
-first-cause-none-append [] ys h = mathlib.Core.Path.refl
-first-cause-none-append (x ∷ xs) ys h = go (x .0) (first-cause-none-append xs ys) h
-  where
-    go : (b : Bool) → (first-cause xs ≡ None → first-cause (xs ++ ys) ≡ first-cause ys) → cond b (Some (x .1)) (first-cause xs) ≡ None → cond b (Some (x .1)) (first-cause (xs ++ ys)) ≡ first-cause ys
-    go true ih g = absurd (some-is-not-none g)
-    go false ih g = ih g
+-- and where every test is false, no cause holds
+pub none-first : {X : Type 0} (ts : List (Bool × X)) → All (λ t. t .0 ≡ false) ts → first-cause ts ≡ None
+none-first [] h = refl
+none-first (t ∷ ts) h = cond-false (t .0) (Some (t .1)) (first-cause ts) (h .0) ∙ none-first ts (h .1)
 
--- where a cause of the first part holds, the second part does not count
-pub first-cause-some-append : (xs ys : List (Bool × Refusal)) (e : Refusal) → first-cause xs ≡ Some e → first-cause (xs ++ ys) ≡ Some e
-first-cause-some-append [] ys e h = let z : _≡_ {A = ℕ} 0 1 = cc in absurd (omega arith)
-first-cause-some-append (x ∷ xs) ys e h = go (x .0) (first-cause-some-append xs ys e) h
-  where
-    go : (b : Bool) → (first-cause xs ≡ Some e → first-cause (xs ++ ys) ≡ Some e) → cond b (Some (x .1)) (first-cause xs) ≡ Some e → cond b (Some (x .1)) (first-cause (xs ++ ys)) ≡ Some e
-    go true ih g = g
-    go false ih g = ih g
+pub none-since : {X : Type 0} (o : Option X) → isSome o ≡ false → o ≡ None
+none-since None h = refl
+none-since (Some x) h = absurd (let z : _≡_ {A = ℕ} 0 1 = cc in omega arith)
+
+-- tests and then more tests
+pub first-found : {X : Type 0} (ts us : List (Bool × X)) (x : X) → first-cause ts ≡ Some x → first-cause (ts ++ us) ≡ Some x
+first-found [] us x h = absurd (let z : _≡_ {A = ℕ} 0 1 = cc in omega arith)
+first-found (t ∷ ts) us x h =
+    ⊎-elim
+    (λ (e : t .0 ≡ true). cond-true (t .0) (Some (t .1)) (first-cause (ts ++ us)) e ∙ sym (cond-true (t .0) (Some (t .1)) (first-cause ts) e) ∙ h)
+    (λ (e : t .0 ≡ false).
+    cond-false (t .0) (Some (t .1)) (first-cause (ts ++ us)) e
+    ∙ first-found ts us x (sym (cond-false (t .0) (Some (t .1)) (first-cause ts) e) ∙ h))
+    (cases-bool (t .0))
+
+pub first-past : {X : Type 0} (ts us : List (Bool × X)) → first-cause ts ≡ None → first-cause (ts ++ us) ≡ first-cause us
+first-past [] us h = refl
+first-past (t ∷ ts) us h =
+    let all = all-fail (t ∷ ts) h in
+    cond-false (t .0) (Some (t .1)) (first-cause (ts ++ us)) (all .0) ∙ first-past ts us (none-first ts (all .1))

@@ -1,6 +1,7 @@
 // Arithmetics modulo p and what they have in common, and the refusals of every call.
 mod balanced;
 mod either;
+mod fitness;
 mod modulus;
 mod montgomery;
 mod plain;
@@ -14,6 +15,8 @@ pub use balanced::BalancedElement;
 pub use either::Either;
 pub use either::EitherArithmetic;
 pub use either::EitherElement;
+pub use fitness::try_index;
+pub use fitness::try_pair;
 pub use modulus::try_modulus;
 pub use montgomery::Montgomery;
 pub use montgomery::MontgomeryArithmetic;

@@ -21,10 +21,9 @@ use Rattle.table.specs.declared.fault.Fault.{Fault}
 use Rattle.table.specs.declared.fault.Layer.the-variants.{Job}
 use Rattle.table.specs.Chain.{Contents, rows}
 use Rattle.table.specs.Faults.{fault, chain-tests, restore-tests}
-use Rattle.table.specs.First.{firstOf}
-use Rattle.table.specs.Fitness.{index-stands}
+use Rattle.arithmetic.specs.Causes.{first-cause, index-stands}
 use Rattle.table.specs.Tables.{holding}
-use Rattle.table.proofs.Firsts.{all-fail, none-first}
+use Rattle.arithmetic.proofs.Causes.{all-fail, none-first}
 use Rattle.table.proofs.Judged.{Sound, sound-chain}
 use Rattle.file.specs.Layout.{word-bytes, row-bytes, residue-word, record-bytes, encode}
 use Rattle.file.specs.Reading.{word-at, residue-of, record-at, records-in, pair-count, decode, length-fits, head-fits, read-tests}
@@ -186,17 +185,17 @@ left-tests t n = (not (index-stands (t .index)), fault 0 (Job Index)) ∷ chain-
 
 -- and the tests that the table made are those of the bytes
 pub judged : (xs : List ℕ) (first index : ℕ) (rs : List Record) → length-fits (length xs) ≡ true → head-fits xs ≡ true
-    → holding first index rs ≡ decode xs → length rs ≡ pair-count xs → firstOf (restore-tests first index rs) ≡ firstOf (read-tests xs)
+    → holding first index rs ≡ decode xs → length rs ≡ pair-count xs → first-cause (restore-tests first index rs) ≡ first-cause (read-tests xs)
 unfolding left-tests
 judged xs first index rs long head same count =
     let top = leb-true (length xs) 16384 (and-parts (eqb (length xs % 16) 0 && leb 16 (length xs)) (leb (length xs) 16384) long .1) in
     cond-false _ _ _ (le-ltb 1023 (length rs) (omega (arith, top)))
-    ∙ ap (λ (n : ℕ). firstOf (left-tests (holding first index rs) n)) count
-    ∙ ap (λ (t : Contents). firstOf (left-tests t (pair-count xs))) same
+    ∙ ap (λ (n : ℕ). first-cause (left-tests (holding first index rs) n)) count
+    ∙ ap (λ (t : Contents). first-cause (left-tests t (pair-count xs))) same
     ∙ sym (cond-false _ _ _ (not-from-true (length-fits (length xs)) long) ∙ cond-false _ _ _ (not-from-true (head-fits xs) head))
 
 -- bytes without a fault: length and head fit, and the table in them is one that may be held
-pub read-sound : (xs : List ℕ) → firstOf (read-tests xs) ≡ None
+pub read-sound : (xs : List ℕ) → first-cause (read-tests xs) ≡ None
     → (length-fits (length xs) ≡ true) × (head-fits xs ≡ true) × Sound (decode xs .first) (decode xs .index) (decode xs .records)
 unfolding decode
 read-sound xs h =
@@ -207,5 +206,5 @@ read-sound xs h =
     let tests : ℕ → List (Bool × Fault) = λ k. chain-tests (rows (word-at xs 0) rs) (word-at xs 4) k k 0 in (
       not-false (length-fits (length xs)) (all .0),
       not-false (head-fits xs) (all .1 .0),
-      sound-chain (word-at xs 0) (word-at xs 4) rs (ap (λ (k : ℕ). firstOf (tests k)) (sym count) ∙ none-first (tests n) (all .1 .1 .1)),
+      sound-chain (word-at xs 0) (word-at xs 4) rs (ap (λ (k : ℕ). first-cause (tests k)) (sym count) ∙ none-first (tests n) (all .1 .1 .1)),
     )

@@ -20,9 +20,9 @@ use Rattle.table.specs.declared.pair.Record.{Record}
 use Rattle.table.specs.declared.fault.Fault.{Fault}
 use Rattle.table.specs.Chain.{Contents, head, rows}
 use Rattle.table.specs.Faults.{chain-tests}
-use Rattle.table.specs.First.{firstOf}
-use Rattle.table.specs.Fitness.{index-stands, record-fits, record-waits}
-use Rattle.table.proofs.Firsts.{all-fail, none-first}
+use Rattle.arithmetic.specs.Causes.{first-cause, index-stands}
+use Rattle.table.specs.Fitness.{record-fits, record-waits}
+use Rattle.arithmetic.proofs.Causes.{all-fail, none-first}
 use Rattle.table.proofs.Judged.{Sound, chain-sound, links-within}
 use Rattle.table.proofs.Listed.{pair-fits}
 use Rattle.table.proofs.Records.{every-at}
@@ -166,15 +166,15 @@ word-table t few stands sound =
 
 -- the bytes of a listing have no fault
 pub listing-read : (t : Contents) → length (t .records) ≤ 1023 → index-stands (t .index) ≡ true → Sound (t .first) (t .index) (t .records)
-    → (firstOf (read-tests (encode t)) ≡ None) × (decode (encode t) ≡ t)
+    → (first-cause (read-tests (encode t)) ≡ None) × (decode (encode t) ≡ t)
 listing-read t few stands sound =
     let words = word-table t few stands sound in
     let back = decode-encode t words in
     let n = length (t .records) in
     let tests : Contents → ℕ → List (Bool × Fault) = λ u c. chain-tests (rows (u .first) (u .records)) (u .index) c c 0 in
-    let chain : firstOf (tests (decode (encode t)) (pair-count (encode t))) ≡ None =
-    ap (λ (u : Contents). firstOf (tests u (pair-count (encode t)))) back
-    ∙ ap (λ (c : ℕ). firstOf (tests t c)) (count-again t)
+    let chain : first-cause (tests (decode (encode t)) (pair-count (encode t))) ≡ None =
+    ap (λ (u : Contents). first-cause (tests u (pair-count (encode t)))) back
+    ∙ ap (λ (c : ℕ). first-cause (tests t c)) (count-again t)
     ∙ chain-sound (t .first) (t .index) (t .records) sound
     in (
       none-first (read-tests (encode t)) (

@@ -6,7 +6,7 @@ ghost use Prim.Native.Nat.{_*_, _≤_, _<_};
 ghost use lib.ListN.{length, drop};
 ghost use Rattle.std.specs.Options.{Cases};
 ghost use Rattle.std.specs.Results.{errPart, isOk};
-ghost use Rattle.table.specs.First.{firstOf};
+ghost use Rattle.arithmetic.specs.Causes.{first-cause};
 ghost use Rattle.table.specs.Faults.{restore-tests};
 ghost use Rattle.table.specs.Tables.{contents, empty, holding};
 ghost use Rattle.file.specs.Reading.{word-at, residue-of, records-in, decode, read-tests};
@@ -26,7 +26,7 @@ const BLANK: Record = Record {
 
 // The table in the bytes. Where they have a fault, the table is empty then, with index 2.
 pub fn read(table: &mut RecordTable, bytes: &[u8]) -> Result<(), Fault>
-    ensures answer { λ r. ⌜ errPart r ≡ firstOf (read-tests (now (bytes .entry))) ⌝ }
+    ensures answer { λ r. ⌜ errPart r ≡ first-cause (read-tests (now (bytes .entry))) ⌝ }
     ensures after { λ r. ⌜ contents (now (table .exit)) ≡ cond (isOk r) (decode (now (bytes .entry))) (empty 2) ⌝ }
 {
     table.reset();
@@ -71,7 +71,7 @@ fn hold(
 ) -> Result<(), Fault>
     requires few { ⌜ count ≤ 1023 ⌝ }
     requires enough { ⌜ 16 * count ≤ length (now bytes) ⌝ }
-    ensures answer { λ r. ⌜ errPart r ≡ firstOf (restore-tests first index (records-in count (now (bytes .entry)))) ⌝ }
+    ensures answer { λ r. ⌜ errPart r ≡ first-cause (restore-tests first index (records-in count (now (bytes .entry)))) ⌝ }
     ensures after { λ r. ⌜ contents (now (table .exit)) ≡ cond (isOk r) (holding first index (records-in count (now (bytes .entry)))) (empty 2) ⌝ }
 {
     let mut room = [BLANK; 1023];

@@ -4,8 +4,8 @@ use mathlib.Core.List.{List, [], _∷_, _++_}
 use Prim.Native.Nat.{ℕ}
 use lib.Chars.{codes}
 use Rattle.std.specs.Written.{decimal}
-use Rattle.line.specs.declared.kind.Kind.{Kind}
-use Rattle.line.specs.declared.kind.Kind.the-variants.{Direct, Doubling}
+use Rattle.theory.specs.declared.kind.Kind.{Kind}
+use Rattle.theory.specs.declared.kind.Kind.the-variants.{Direct, Doubling}
 use Rattle.line.specs.declared.text.Line.{Line}
 use Rattle.line.specs.declared.text.Line.the-variants.{Residue, Refused}
 

@@ -7,9 +7,9 @@ ghost use lib.ListN.{length, take};
 ghost use Rattle.std.specs.Written.{decimal};
 ghost use Rattle.line.specs.Lines.{line-bytes, kind-name, line-feed};
 ghost use Rattle.line.specs.Output.{PutOut};
-use crate::kind::Kind;
 use crate::put::put_out;
 use arithmetic::Refusal;
+use theory::Kind;
 
 // What one line tells.
 #[derive(Clone, Copy)]

@@ -22,11 +22,11 @@ use Rattle.theory.proofs.OrderOfTwo.{rows-fit-leaves, leaves-rows-fit}
 use Rattle.arithmetic.specs.declared.refusal.Refusal.{Refusal}
 use Rattle.arithmetic.specs.declared.refusal.Refusal.the-variants.{NotUsable}
 use Rattle.arithmetic.specs.Causes.{first-cause}
-use Rattle.arithmetic.proofs.Causes.{first-cause-some-append}
+use Rattle.arithmetic.proofs.Causes.{first-found}
 use Rattle.run.specs.declared.progress.Progress.{Progress}
 use Rattle.run.specs.declared.progress.Progress.the-variants.{Direct as AtDirect, Doubling as AtDoubling}
 use Rattle.run.specs.Places.{kind-of, direct-place, row-place, progress-after}
-use Rattle.run.specs.Calls.{Started, pair-causes, open-causes}
+use Rattle.run.specs.Calls.{Started, fit-causes, open-causes}
 
 one-left : (p : ℕ) → 5 ≤ p → 1 % p ≡ 1
 one-left p low = mod-eq-of-lt (omega arith)
@@ -99,6 +99,6 @@ started-kept kind k p g q started =
     (ap (λ (x : Kind). can-run x p k) same ∙ started .0, started .2 g ∙ ap (λ (x : Kind). progress-after x p g k 0) (sym same))
 
 -- the causes of a pair are tried first
-pub pair-cause-first : (kind : Kind) (k p g : ℕ) (e : Refusal) → first-cause (pair-causes k p g) ≡ Some e → first-cause (open-causes kind k p g) ≡ Some e
+pub pair-cause-first : (kind : Kind) (k p g : ℕ) (e : Refusal) → first-cause (fit-causes k p g) ≡ Some e → first-cause (open-causes kind k p g) ≡ Some e
 pair-cause-first kind k p g e refused =
-    first-cause-some-append (pair-causes k p g) ((not (can-run kind p k), NotUsable) ∷ []) e refused
+    first-found (fit-causes k p g) ((not (can-run kind p k), NotUsable) ∷ []) e refused

@@ -14,8 +14,8 @@ use Rattle.theory.specs.Direct.{terms-of}
 use Rattle.theory.specs.Kinds.{can-run}
 use Rattle.theory.specs.Pairs.{Fit}
 use Rattle.arithmetic.specs.declared.refusal.Refusal.{Refusal}
-use Rattle.arithmetic.specs.declared.refusal.Refusal.the-variants.{Index, Modulus, Generator, IndexAboveModulus, NotUsable, OtherArithmetic, Share, NoTermLeft, TermsLeft}
-use Rattle.arithmetic.specs.Causes.{first-cause, unfit-index, unfit-modulus, unfit-generator, index-above}
+use Rattle.arithmetic.specs.declared.refusal.Refusal.the-variants.{NotUsable, OtherArithmetic, Share, NoTermLeft}
+use Rattle.arithmetic.specs.Causes.{first-cause, index-causes, pair-causes}
 use Rattle.run.specs.declared.state.Run.{Run}
 use Rattle.run.specs.declared.progress.Progress.{Progress}
 use Rattle.run.specs.Places.{kind-of, progress-after}
@@ -32,19 +32,18 @@ pub record Stands (run : Run) (kind : Kind) (k p g t : ℕ) : Type 0 where
 abbrev pub left-of : Run → ℕ
 left-of run = terms-of (run .modulus) - run .taken
 
--- a pair that is not fit for the index is refused
-abbrev pub pair-causes : ℕ → ℕ → ℕ → List (Bool × Refusal)
-pair-causes k p g =
-    (unfit-index k, Index) ∷ (unfit-modulus p, Modulus) ∷ (unfit-generator p g, Generator) ∷ (index-above p k, IndexAboveModulus) ∷ []
+-- an index that no pair serves and a pair that is not fit for it are refused
+abbrev pub fit-causes : ℕ → ℕ → ℕ → List (Bool × Refusal)
+fit-causes k p g = index-causes k ++ pair-causes k p g
 
 -- else something of its modulus is given
 abbrev pub Paired : {X : Type 0} → ℕ → ℕ → ℕ → (X → ℕ) → Result X Refusal → Type 0
-Paired k p g modulus-of (Ok x) = (first-cause (pair-causes k p g) ≡ None) × Fit k p g × (modulus-of x ≡ p)
-Paired k p g modulus-of (Err e) = first-cause (pair-causes k p g) ≡ Some e
+Paired k p g modulus-of (Ok x) = (first-cause (fit-causes k p g) ≡ None) × Fit k p g × (modulus-of x ≡ p)
+Paired k p g modulus-of (Err e) = first-cause (fit-causes k p g) ≡ Some e
 
 -- opening refuses an unfit pair, then a doubling run that is not usable
 abbrev pub open-causes : Kind → ℕ → ℕ → ℕ → List (Bool × Refusal)
-open-causes kind k p g = pair-causes k p g ++ ((not (can-run kind p k), NotUsable) ∷ [])
+open-causes kind k p g = fit-causes k p g ++ ((not (can-run kind p k), NotUsable) ∷ [])
 
 -- where a run begins, or nothing where none of this kind can be opened
 abbrev pub Started : Kind → ℕ → ℕ → Option Progress → Type 0

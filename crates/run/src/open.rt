@@ -12,23 +12,17 @@ use arithmetic::Arithmetic;
 use arithmetic::Plain;
 use arithmetic::PlainArithmetic;
 use arithmetic::Refusal;
+use arithmetic::try_index;
+use arithmetic::try_pair;
 use theory::Kind;
 
 // Refuses a pair that is not fit for the index; else gives an arithmetic of its modulus.
 fn check_pair(index: u32, modulus: u32, generator: u32) -> Result<Plain, Refusal>
     ensures causes { λ r. ⌜ Paired index modulus generator (λ a. a .modulus) r ⌝ }
 {
-    if index % 2 == 1 || index < 2 || index > 2147483646 {
-        return Err(Refusal::Index);
-    }
-    let plain = Plain::new(modulus)?;
-    if generator < 2 || generator > modulus - 1 {
-        return Err(Refusal::Generator);
-    }
-    if index > modulus - 3 {
-        return Err(Refusal::IndexAboveModulus);
-    }
-    Ok(plain)
+    try_index(index)?;
+    try_pair(index, modulus, generator)?;
+    Plain::new(modulus)
 }
 
 // Where a doubling run begins, if it is usable: 2n′ divides p − 1 exactly where 2^(p − 1) leaves 1.

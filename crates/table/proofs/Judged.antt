@@ -20,10 +20,10 @@ use Rattle.table.specs.declared.fault.Layer.the-variants.{File}
 use Rattle.table.specs.declared.pair.Record.{Record}
 use Rattle.table.specs.Chain.{rises, chained, walk, rows, row, head, next-in, modulus-in, every}
 use Rattle.table.specs.Faults.{fault, record-tests, chain-tests, restore-tests}
-use Rattle.table.specs.First.{firstOf}
-use Rattle.table.specs.Fitness.{index-stands, record-fits, record-waits, modulus-fits, generator-fits, index-fits, residue-fits}
+use Rattle.arithmetic.specs.Causes.{first-cause, index-stands, modulus-fits, generator-fits, index-fits}
+use Rattle.table.specs.Fitness.{record-fits, record-waits, residue-fits}
 use Rattle.table.proofs.Chains.{Step, rises-step, rises-more, rises-end, rises-none}
-use Rattle.table.proofs.Firsts.{all-fail, none-first, first-found, first-past}
+use Rattle.arithmetic.proofs.Causes.{all-fail, none-first, first-found, first-past}
 use Rattle.table.proofs.Meetings.{of-each, next-within}
 use Rattle.table.proofs.Records.{every-from, every-at}
 
@@ -35,7 +35,7 @@ none-fits : (p : ℕ) (o : Option ℕ) → not (isSome o) ≡ true → residue-f
 none-fits p None h = refl
 none-fits p (Some x) h = absurd (let z : _≡_ {A = ℕ} 0 1 = cc in omega arith)
 
-passes-from : (k before i : ℕ) (r : Record) → firstOf (record-tests k before i r) ≡ None → Passes k before r
+passes-from : (k before i : ℕ) (r : Record) → first-cause (record-tests k before i r) ≡ None → Passes k before r
 unfolding record-fits
 passes-from k before i r h =
     let all = all-fail (record-tests k before i r) h in
@@ -48,7 +48,7 @@ passes-from k before i r h =
       waits,
     )
 
-passes-to : (k before i : ℕ) (r : Record) → Passes k before r → firstOf (record-tests k before i r) ≡ None
+passes-to : (k before i : ℕ) (r : Record) → Passes k before r → first-cause (record-tests k before i r) ≡ None
 unfolding record-fits
 passes-to k before i r h =
     let a = and-parts _ _ (h .1) in
@@ -64,48 +64,48 @@ passes-to k before i r h =
 
 module _ (rs : List Record) (k count : ℕ) where
   -- the chain ends while records are left
-  pub test-early : (left i : ℕ) → next-in rs i ≡ 0 → firstOf (chain-tests rs k count (suc left) i) ≡ Some (fault i (File Chain))
+  pub test-early : (left i : ℕ) → next-in rs i ≡ 0 → first-cause (chain-tests rs k count (suc left) i) ≡ Some (fault i (File Chain))
   unfolding chain-tests
   test-early left i e = cond-true _ _ _ (eq-eqb (next-in rs i) 0 e)
 
   -- it leads to a number above the count
-  pub test-far : (left i : ℕ) → next-in rs i ≢ 0 → count < next-in rs i → firstOf (chain-tests rs k count (suc left) i) ≡ Some (fault (next-in rs i) (File Chain))
+  pub test-far : (left i : ℕ) → next-in rs i ≢ 0 → count < next-in rs i → first-cause (chain-tests rs k count (suc left) i) ≡ Some (fault (next-in rs i) (File Chain))
   unfolding chain-tests
   test-far left i ne far = cond-false _ _ _ (ne-eqb (next-in rs i) 0 ne) ∙ cond-true _ _ _ (lt-ltb count (next-in rs i) far)
 
   stay : (left i : ℕ) → next-in rs i ≢ 0 → next-in rs i ≤ count
-      → firstOf (chain-tests rs k count (suc left) i)
-      ≡ firstOf (record-tests k (modulus-in rs i) (next-in rs i) (row rs (next-in rs i)) ++ chain-tests rs k count left (next-in rs i))
+      → first-cause (chain-tests rs k count (suc left) i)
+      ≡ first-cause (record-tests k (modulus-in rs i) (next-in rs i) (row rs (next-in rs i)) ++ chain-tests rs k count left (next-in rs i))
   unfolding chain-tests
   stay left i ne near = cond-false _ _ _ (ne-eqb (next-in rs i) 0 ne) ∙ cond-false _ _ _ (le-ltb count (next-in rs i) near)
 
   -- it leads to a record that has a fault
   pub test-bad : (left i : ℕ) (f : Fault) → next-in rs i ≢ 0 → next-in rs i ≤ count
-      → firstOf (record-tests k (modulus-in rs i) (next-in rs i) (row rs (next-in rs i))) ≡ Some f
-      → firstOf (chain-tests rs k count (suc left) i) ≡ Some f
+      → first-cause (record-tests k (modulus-in rs i) (next-in rs i) (row rs (next-in rs i))) ≡ Some f
+      → first-cause (chain-tests rs k count (suc left) i) ≡ Some f
   test-bad left i f ne near h =
       stay left i ne near
       ∙ first-found (record-tests k (modulus-in rs i) (next-in rs i) (row rs (next-in rs i))) (chain-tests rs k count left (next-in rs i)) f h
 
   -- it leads to a record without one
   pub test-on : (left i : ℕ) → next-in rs i ≢ 0 → next-in rs i ≤ count
-      → firstOf (record-tests k (modulus-in rs i) (next-in rs i) (row rs (next-in rs i))) ≡ None
-      → firstOf (chain-tests rs k count (suc left) i) ≡ firstOf (chain-tests rs k count left (next-in rs i))
+      → first-cause (record-tests k (modulus-in rs i) (next-in rs i) (row rs (next-in rs i))) ≡ None
+      → first-cause (chain-tests rs k count (suc left) i) ≡ first-cause (chain-tests rs k count left (next-in rs i))
   test-on left i ne near h =
       stay left i ne near
       ∙ first-past (record-tests k (modulus-in rs i) (next-in rs i) (row rs (next-in rs i))) (chain-tests rs k count left (next-in rs i)) h
 
   -- it goes on while none is left
-  pub test-over : (i : ℕ) → next-in rs i ≢ 0 → firstOf (chain-tests rs k count 0 i) ≡ Some (fault (next-in rs i) (File Chain))
+  pub test-over : (i : ℕ) → next-in rs i ≢ 0 → first-cause (chain-tests rs k count 0 i) ≡ Some (fault (next-in rs i) (File Chain))
   unfolding chain-tests
   test-over i ne = cond-true _ _ _ (not-from-false _ (ne-eqb (next-in rs i) 0 ne))
 
-  pub test-end : (i : ℕ) → next-in rs i ≡ 0 → firstOf (chain-tests rs k count 0 i) ≡ None
+  pub test-end : (i : ℕ) → next-in rs i ≡ 0 → first-cause (chain-tests rs k count 0 i) ≡ None
   unfolding chain-tests
   test-end i e = cond-false _ _ _ (not-from-true _ (eq-eqb (next-in rs i) 0 e))
 
   -- a chain without a fault rises, and each record on it is fit and waits
-  sound-from : (left i : ℕ) → firstOf (chain-tests rs k count left i) ≡ None
+  sound-from : (left i : ℕ) → first-cause (chain-tests rs k count left i) ≡ None
       → (rises (next-in rs) (modulus-in rs) count left i ≡ true)
       × All (λ j. (record-fits k (row rs j) ≡ true) × (record-waits (row rs j) ≡ true)) (walk (next-in rs) left i)
   unfolding chain-tests walk
@@ -117,14 +117,14 @@ module _ (rs : List Record) (k count : ℕ) where
       let ne : next-in rs i ≢ 0 = eqb-false (next-in rs i) 0 (all .0) in
       let near : next-in rs i ≤ count = ltb-false count (next-in rs i) (all .1 .0) in
       let tests = record-tests k (modulus-in rs i) (next-in rs i) (row rs (next-in rs i)) in
-      let passed : firstOf tests ≡ None = none-first tests (all .1 .1 .0, (all .1 .1 .1 .0, (all .1 .1 .1 .1 .0, (all .1 .1 .1 .1 .1 .0, (all .1 .1 .1 .1 .1 .1 .0, tt))))) in
+      let passed : first-cause tests ≡ None = none-first tests (all .1 .1 .0, (all .1 .1 .1 .0, (all .1 .1 .1 .1 .0, (all .1 .1 .1 .1 .1 .0, (all .1 .1 .1 .1 .1 .1 .0, tt))))) in
       let ok = passes-from k (modulus-in rs i) (next-in rs i) (row rs (next-in rs i)) passed in
       let ih = sound-from left (next-in rs i) (sym (test-on left i ne near passed) ∙ h) in
       (rises-more (next-in rs) (modulus-in rs) count left i (omega arith, near, ok .0) (ih .0), ((ok .1, ok .2), ih .1))
 
   -- and a chain that rises over records that are fit and wait has none
   sound-to : ((j : ℕ) → 1 ≤ j → j ≤ count → (record-fits k (row rs j) ≡ true) × (record-waits (row rs j) ≡ true)) → (left i : ℕ)
-      → rises (next-in rs) (modulus-in rs) count left i ≡ true → firstOf (chain-tests rs k count left i) ≡ None
+      → rises (next-in rs) (modulus-in rs) count left i ≡ true → first-cause (chain-tests rs k count left i) ≡ None
   sound-to each zero i up = test-end i (rises-end (next-in rs) (modulus-in rs) count i up)
   sound-to each (suc left) i up =
       let step = rises-step (next-in rs) (modulus-in rs) count left i up in
@@ -137,7 +137,7 @@ module _ (rs : List Record) (k count : ℕ) where
 abbrev pub Sound : ℕ → ℕ → List Record → Type 0
 Sound first k rs = (chained first rs ≡ true) × (every (record-fits k) rs ≡ true) × (every record-waits rs ≡ true)
 
-pub sound-chain : (first k : ℕ) (rs : List Record) → firstOf (chain-tests (rows first rs) k (length rs) (length rs) 0) ≡ None → Sound first k rs
+pub sound-chain : (first k : ℕ) (rs : List Record) → first-cause (chain-tests (rows first rs) k (length rs) (length rs) 0) ≡ None → Sound first k rs
 unfolding chained
 sound-chain first k rs h =
     let s = sound-from (rows first rs) k (length rs) (length rs) 0 h in
@@ -149,7 +149,7 @@ sound-chain first k rs h =
       every-from record-waits rs (head 0) (λ i l. each (suc i) (omega arith) (omega arith) .1),
     )
 
-pub chain-sound : (first k : ℕ) (rs : List Record) → Sound first k rs → firstOf (chain-tests (rows first rs) k (length rs) (length rs) 0) ≡ None
+pub chain-sound : (first k : ℕ) (rs : List Record) → Sound first k rs → first-cause (chain-tests (rows first rs) k (length rs) (length rs) 0) ≡ None
 unfolding chained
 chain-sound first k rs s = sound-to (rows first rs) k (length rs) each (length rs) 0 (s .0)
   where
@@ -158,7 +158,7 @@ chain-sound first k rs s = sound-to (rows first rs) k (length rs) each (length r
     each (suc j) low high = (every-at (record-fits k) rs j (head 0) (s .1) (omega arith), every-at record-waits rs j (head 0) (s .2) (omega arith))
 
 -- what a table may hold, as the tests of records that come from outside tell it
-pub restored : (first k : ℕ) (rs : List Record) → firstOf (restore-tests first k rs) ≡ None
+pub restored : (first k : ℕ) (rs : List Record) → first-cause (restore-tests first k rs) ≡ None
     → (length rs ≤ 1023) × (index-stands k ≡ true) × Sound first k rs
 restored first k rs h =
     let all = all-fail (restore-tests first k rs) h in (

@@ -16,7 +16,8 @@ use Rattle.std.proofs.shelf.Tests.{and-parts, and-from, eqb-true, eq-eqb, ne-eq
 use Rattle.theory.specs.Pairs.{FitModulus, FitGenerator, Fit}
 use Rattle.table.specs.declared.pair.Record.{Record}
 use Rattle.table.specs.Chain.{chained, rows, head, next-in, modulus-in, number-from, number-of, Only}
-use Rattle.table.specs.Fitness.{index-stands, modulus-fits, generator-fits, index-fits, record-fits}
+use Rattle.arithmetic.specs.Causes.{index-stands, modulus-fits, generator-fits, index-fits}
+use Rattle.table.specs.Fitness.{record-fits}
 use Rattle.table.proofs.Meetings.{apart}
 use Rattle.table.proofs.Records.{unlisted}
 

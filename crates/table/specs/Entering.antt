@@ -1,6 +1,6 @@
--- Beginning and entering: why they refuse, in the order in which the causes are tried, and what entering changes.
+-- Entering: why it refuses, in the order in which the causes are tried, and what it changes.
 -- Assumes nothing.
-use mathlib.Core.Bool.{Bool, not}
+use mathlib.Core.Bool.{Bool}
 use mathlib.Core.List.{List, [], _∷_, _++_, map}
 use mathlib.Core.Path.{_≡_}
 use Prim.Native.Nat.{ℕ}
@@ -10,21 +10,10 @@ use Rattle.std.specs.declared.option.Option.the-variants.{None}
 use Rattle.std.specs.declared.result.Result.{Result}
 use Rattle.std.specs.declared.result.Result.the-variants.{Ok, Err}
 use Rattle.arithmetic.specs.declared.refusal.Refusal.{Refusal}
-use Rattle.arithmetic.specs.declared.refusal.Refusal.the-variants.{Index, Modulus, Generator, IndexAboveModulus, ListingFull, AlreadyListed}
+use Rattle.arithmetic.specs.declared.refusal.Refusal.the-variants.{ListingFull, AlreadyListed}
 use Rattle.table.specs.declared.pair.Record.{Record}
 use Rattle.table.specs.Chain.{Contents, chain-pairs, insert, listed, relinked}
-use Rattle.table.specs.Fitness.{index-stands, modulus-fits, generator-fits, index-fits}
-
-abbrev pub begin-causes : ℕ → List (Bool × Refusal)
-begin-causes k = (not (index-stands k), Index) ∷ []
-
--- a pair for the index k, by itself
-abbrev pub pair-causes : ℕ → ℕ → ℕ → List (Bool × Refusal)
-pair-causes k p g =
-    (not (modulus-fits p), Modulus)
-    ∷ (not (generator-fits p g), Generator)
-    ∷ (not (index-fits p k), IndexAboveModulus)
-    ∷ []
+use Rattle.arithmetic.specs.Causes.{pair-causes}
 
 -- a pair for a table
 abbrev pub enter-causes : Contents → ℕ → ℕ → List (Bool × Refusal)

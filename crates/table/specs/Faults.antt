@@ -12,7 +12,7 @@ use Rattle.table.specs.declared.fault.Layer.{Layer}
 use Rattle.table.specs.declared.fault.Layer.the-variants.{File, Job}
 use Rattle.table.specs.declared.pair.Record.{Record}
 use Rattle.table.specs.Chain.{row, rows, next-in, modulus-in}
-use Rattle.table.specs.Entering.{begin-causes, pair-causes}
+use Rattle.arithmetic.specs.Causes.{index-causes, pair-causes}
 use Rattle.table.specs.Fitness.{record-waits}
 
 abbrev pub fault : ℕ → Layer → Fault
@@ -40,7 +40,7 @@ chain-tests rs k count (suc left) i =
 
 -- an index, and a whole chain for it
 abbrev pub job-tests : ℕ → ℕ → List Record → ℕ → List (Bool × Fault)
-job-tests first k records count = of-job 0 (begin-causes k) ++ chain-tests (rows first records) k count count 0
+job-tests first k records count = of-job 0 (index-causes k) ++ chain-tests (rows first records) k count count 0
 
 -- records for a table, which holds 1,023 of them at most
 abbrev pub restore-tests : ℕ → ℕ → List Record → List (Bool × Fault)

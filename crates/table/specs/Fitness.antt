@@ -1,29 +1,14 @@
--- The tests of an index, a modulus, a generator and a residue.
+-- The tests of a record.
 -- Assumes nothing.
 use mathlib.Core.Bool.{Bool, true, not, _&&_}
-use Prim.Native.Nat.{ℕ, _-_, _%_}
-use lib.Dec.{eqb, leb, ltb}
+use Prim.Native.Nat.{ℕ}
+use lib.Dec.{ltb}
 use Rattle.std.specs.Options.{isSome}
 use Rattle.std.specs.declared.option.Option.{Option}
 use Rattle.std.specs.declared.option.Option.the-variants.{Some, None}
 use Rattle.theory.specs.Pairs.{Fit}
+use Rattle.arithmetic.specs.Causes.{modulus-fits, generator-fits, index-fits}
 use Rattle.table.specs.declared.pair.Record.{Record}
-
--- an index that some pair can serve: even, and from 2 to 2147483646
-abbrev pub index-stands : ℕ → Bool
-index-stands k = eqb (k % 2) 0 && leb 2 k && leb k 2147483646
-
--- a modulus: odd, and from 5 to 2147483647
-abbrev pub modulus-fits : ℕ → Bool
-modulus-fits p = eqb (p % 2) 1 && leb 5 p && leb p 2147483647
-
--- a generator for p: from 2 to p − 1
-abbrev pub generator-fits : ℕ → ℕ → Bool
-generator-fits p g = leb 2 g && leb g (p - 1)
-
--- the index is not above p − 3
-abbrev pub index-fits : ℕ → ℕ → Bool
-index-fits p k = leb k (p - 3)
 
 -- a residue by p, where there is one
 abbrev pub residue-fits : ℕ → Option ℕ → Bool

@@ -1,4 +1,3 @@
-pub mod First
 pub mod Fitness
 pub mod Chain
 pub mod Entering

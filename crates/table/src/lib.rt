@@ -1,6 +1,5 @@
 // The record table: the pairs of a listing or a book in order of entering, and their chain in rising order of modulus.
 mod fault;
-mod fitness;
 mod pair;
 mod table;
 

@@ -10,7 +10,8 @@ ghost use mathlib.Core.Path.{_≡_};
 ghost use Prim.Native.Nat.{_≤_};
 ghost use Rattle.std.specs.Of.Vec.{vec-items, vec-len, vec-cap};
 ghost use Rattle.table.specs.Chain.{chained, every};
-ghost use Rattle.table.specs.Fitness.{index-stands, record-fits};
+ghost use Rattle.arithmetic.specs.Causes.{index-stands};
+ghost use Rattle.table.specs.Fitness.{record-fits};
 use crate::pair::Record;
 
 // Record numbers start at 1, in order of entering; `first` is the first of the chain, 0 where there is none. The memory

@@ -9,8 +9,8 @@ ghost use Rattle.file.specs.Layout.{encode};
 ghost use Rattle.file.specs.Reading.{decode, read-tests};
 ghost use Rattle.line.specs.Output.{PutOut};
 ghost use Rattle.table.specs.Chain.{chain-pairs};
-ghost use Rattle.table.specs.Entering.{begin-causes, enter-causes, Entered};
-ghost use Rattle.table.specs.First.{firstOf};
+ghost use Rattle.arithmetic.specs.Causes.{index-causes, first-cause};
+ghost use Rattle.table.specs.Entering.{enter-causes, Entered};
 ghost use Rattle.table.specs.Tables.{empty};
 ghost use Rattle.book.specs.Listings.{listing, WrittenAgain, FoundAgain};
 use super::Listing;
@@ -32,7 +32,7 @@ impl Listing {
 
     // Empties the listing for an index.
     pub fn begin(&mut self, index: u32) -> Result<(), Refusal>
-        ensures answer { λ r. ⌜ errPart r ≡ firstOf (begin-causes index) ⌝ }
+        ensures answer { λ r. ⌜ errPart r ≡ first-cause (index-causes index) ⌝ }
         ensures after { λ r. ⌜ listing (now (self .exit)) ≡ cond (isOk r) (empty index) (listing (now (self .entry))) ⌝ }
     {
         self.table.begin(index)
@@ -40,7 +40,7 @@ impl Listing {
 
     // Adds a pair that is fit for the index and whose modulus is not listed yet.
     pub fn enter(&mut self, modulus: u32, generator: u32) -> Result<(), Refusal>
-        ensures answer { λ r. ⌜ errPart r ≡ firstOf (enter-causes (listing (now (self .entry))) modulus generator) ⌝ }
+        ensures answer { λ r. ⌜ errPart r ≡ first-cause (enter-causes (listing (now (self .entry))) modulus generator) ⌝ }
         ensures after { λ r. ⌜ Entered (listing (now (self .entry))) (listing (now (self .exit))) modulus generator r ⌝ }
     {
         self.table.enter(modulus, generator)
@@ -75,7 +75,7 @@ impl Listing {
 
     // Reads a file, any bytes. Where they have a fault, the listing is empty then, with index 2.
     pub fn read(&mut self, bytes: &[u8]) -> Result<(), Fault>
-        ensures answer { λ r. ⌜ errPart r ≡ firstOf (read-tests (now (bytes .entry))) ⌝ }
+        ensures answer { λ r. ⌜ errPart r ≡ first-cause (read-tests (now (bytes .entry))) ⌝ }
         ensures after { λ r. ⌜ listing (now (self .exit)) ≡ cond (isOk r) (decode (now (bytes .entry))) (empty 2) ⌝ }
         ensures written { λ r. ⌜ WrittenAgain (now (bytes .entry)) (listing (now (self .exit))) r ⌝ }
         ensures found { λ r. ⌜ FoundAgain (now (bytes .entry)) (listing (now (self .exit))) r ⌝ }

@@ -1,8 +1,8 @@
 // The text lines.
-use line::Kind;
 use line::Line;
 use line::put_line;
 use std::test::*;
+use theory::Kind;
 
 // The line stands at the front of the output, what was behind it stays, and one byte less is too little.
 fn shows(line: Line, expected: &[u8]) -> Result<(), Fail> {

@@ -3,17 +3,17 @@ ghost use mathlib.Core.Bool.{cond};
 ghost use mathlib.Core.Path.{_≡_};
 ghost use Rattle.std.specs.Results.{errPart, isOk};
 ghost use Rattle.std.specs.Vec.{made};
-ghost use Rattle.table.specs.Entering.{begin-causes, enter-causes, Entered};
-ghost use Rattle.table.specs.First.{firstOf};
+ghost use Rattle.arithmetic.specs.Causes.{index-causes, first-cause};
+ghost use Rattle.table.specs.Entering.{enter-causes, Entered};
 ghost use Rattle.table.specs.Tables.{contents, empty};
 use super::RecordTable;
 use super::chain::next_after;
 use super::chain::place_of;
 use super::chain::relink;
-use crate::fitness::judge_index;
-use crate::fitness::judge_pair;
 use crate::pair::Record;
 use arithmetic::Refusal;
+use arithmetic::try_index;
+use arithmetic::try_pair;
 use std::alloc::AllocError;
 use std::alloc::Global;
 
@@ -32,10 +32,10 @@ impl RecordTable {
 
     // Empties the table for an index.
     pub fn begin(&mut self, index: u32) -> Result<(), Refusal>
-        ensures answer { λ r. ⌜ errPart r ≡ firstOf (begin-causes index) ⌝ }
+        ensures answer { λ r. ⌜ errPart r ≡ first-cause (index-causes index) ⌝ }
         ensures after { λ r. ⌜ contents (now (self .exit)) ≡ cond (isOk r) (empty index) (contents (now (self .entry))) ⌝ }
     {
-        judge_index(index)?;
+        try_index(index)?;
         self.records.clear();
         self.first = 0;
         self.index = index;
@@ -44,7 +44,7 @@ impl RecordTable {
 
     // Adds a pair as the record numbered one above the last, and puts it into the chain in rising order of modulus.
     pub fn enter(&mut self, modulus: u32, generator: u32) -> Result<(), Refusal>
-        ensures answer { λ r. ⌜ errPart r ≡ firstOf (enter-causes (contents (now (self .entry))) modulus generator) ⌝ }
+        ensures answer { λ r. ⌜ errPart r ≡ first-cause (enter-causes (contents (now (self .entry))) modulus generator) ⌝ }
         ensures after { λ r. ⌜ Entered (contents (now (self .entry))) (contents (now (self .exit))) modulus generator r ⌝ }
     {
         self.admit(modulus, generator)?;
@@ -62,9 +62,9 @@ impl RecordTable {
     }
 
     fn admit(&self, modulus: u32, generator: u32) -> Result<(), Refusal>
-        ensures answer { λ r. ⌜ errPart r ≡ firstOf (enter-causes (contents (now (self .entry))) modulus generator) ⌝ }
+        ensures answer { λ r. ⌜ errPart r ≡ first-cause (enter-causes (contents (now (self .entry))) modulus generator) ⌝ }
     {
-        judge_pair(self.index, modulus, generator)?;
+        try_pair(self.index, modulus, generator)?;
         if self.records.len() >= 1023 {
             return Err(Refusal::ListingFull);
         }

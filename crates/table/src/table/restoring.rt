@@ -8,16 +8,16 @@ ghost use Rattle.std.specs.Of.Vec.{vec-items, vec-len, vec-cap};
 ghost use Rattle.std.specs.Results.{errPart, isOk};
 ghost use Rattle.table.specs.Chain.{rows};
 ghost use Rattle.table.specs.Faults.{fault, record-tests, chain-tests, restore-tests};
-ghost use Rattle.table.specs.First.{firstOf};
+ghost use Rattle.arithmetic.specs.Causes.{first-cause};
 ghost use Rattle.table.specs.Tables.{contents, empty, holding};
 use super::RecordTable;
 use super::chain::next_after;
 use crate::fault::Damage;
 use crate::fault::Fault;
 use crate::fault::Layer;
-use crate::fitness::judge_index;
-use crate::fitness::judge_pair;
 use crate::pair::Record;
+use arithmetic::try_index;
+use arithmetic::try_pair;
 
 impl RecordTable {
     // As a new table: empty, with index 2.
@@ -32,7 +32,7 @@ impl RecordTable {
     // Holds these records, of which none has a residue, with this first of the chain and this index. Where they have a
     // fault, the table is empty then, with index 2.
     pub fn restore(&mut self, first: u32, index: u32, records: &[Record]) -> Result<(), Fault>
-        ensures answer { λ r. ⌜ errPart r ≡ firstOf (restore-tests first index (now (records .entry))) ⌝ }
+        ensures answer { λ r. ⌜ errPart r ≡ first-cause (restore-tests first index (now (records .entry))) ⌝ }
         ensures after { λ r. ⌜ contents (now (self .exit)) ≡ cond (isOk r) (holding first index (now (records .entry))) (empty 2) ⌝ }
     {
         self.reset();
@@ -56,7 +56,7 @@ fn copy_all(into: &mut Vec<Record>, records: &[Record])
 }
 
 fn judge(first: u32, index: u32, records: &[Record]) -> Result<(), Fault>
-    ensures answer { λ r. ⌜ errPart r ≡ firstOf (restore-tests first index (now (records .entry))) ⌝ }
+    ensures answer { λ r. ⌜ errPart r ≡ first-cause (restore-tests first index (now (records .entry))) ⌝ }
 {
     if records.len() > 1023 {
         return Err(Fault {
@@ -64,7 +64,7 @@ fn judge(first: u32, index: u32, records: &[Record]) -> Result<(), Fault>
             layer: Layer::File(Damage::Length),
         });
     }
-    if let Err(refusal) = judge_index(index) {
+    if let Err(refusal) = try_index(index) {
         return Err(Fault {
             record: 0,
             layer: Layer::Job(refusal),
@@ -74,7 +74,7 @@ fn judge(first: u32, index: u32, records: &[Record]) -> Result<(), Fault>
 }
 
 fn judge_chain(first: u32, index: u32, records: &[Record]) -> Result<(), Fault>
-    ensures answer { λ r. ⌜ errPart r ≡ firstOf (chain-tests (rows first (now (records .entry))) index (length (now (records .entry))) (length (now (records .entry))) 0) ⌝ }
+    ensures answer { λ r. ⌜ errPart r ≡ first-cause (chain-tests (rows first (now (records .entry))) index (length (now (records .entry))) (length (now (records .entry))) 0) ⌝ }
 {
     let mut at = 0;
     let mut before = 0;
@@ -99,7 +99,7 @@ fn judge_chain(first: u32, index: u32, records: &[Record]) -> Result<(), Fault>
 }
 
 fn judge_record(index: u32, before: u32, number: u32, record: Record) -> Result<(), Fault>
-    ensures answer { λ r. ⌜ errPart r ≡ firstOf (record-tests index before number «record») ⌝ }
+    ensures answer { λ r. ⌜ errPart r ≡ first-cause (record-tests index before number «record») ⌝ }
 {
     if record.modulus <= before {
         return Err(broken(number));
@@ -110,7 +110,7 @@ fn judge_record(index: u32, before: u32, number: u32, record: Record) -> Result<
             layer: Layer::File(Damage::Residue),
         });
     }
-    if let Err(refusal) = judge_pair(index, record.modulus, record.generator) {
+    if let Err(refusal) = try_pair(index, record.modulus, record.generator) {
         return Err(Fault {
             record: number,
             layer: Layer::Job(refusal),

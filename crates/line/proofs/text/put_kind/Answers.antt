@@ -4,7 +4,7 @@ use mathlib.Core.List.{List, [], _∷_, _++_, append-assoc}
 use Prim.Native.Nat.{ℕ}
 use lib.ListN.{take}
 use native.Mathlib.Omega.{arith}
-use Rattle.line.specs.declared.kind.Kind.{Kind}
+use Rattle.theory.specs.declared.kind.Kind.{Kind}
 use Rattle.line.specs.Lines.{kind-name, line-feed}
 use Rattle.line.proofs.text.put_kind.Needs as need
 

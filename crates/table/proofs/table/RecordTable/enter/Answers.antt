@@ -11,7 +11,8 @@ use Rattle.std.proofs.shelf.Tests.{and-parts, and-from, leb-true}
 use Rattle.table.specs.declared.pair.Record.{Record}
 use Rattle.table.specs.Chain.{Contents, chained, number-of, place, rows, row, next-in, modulus-in, relinked}
 use Rattle.table.specs.Entering.{enter-causes, waiting-record}
-use Rattle.table.specs.Fitness.{record-fits, modulus-fits, generator-fits, index-fits}
+use Rattle.arithmetic.specs.Causes.{modulus-fits, generator-fits, index-fits}
+use Rattle.table.specs.Fitness.{record-fits}
 use Rattle.table.specs.Tables.{contents}
 use Rattle.table.proofs.Firsts.{admitted}
 use Rattle.table.proofs.Linked.{place-within, linked-chain, linked-pairs, linked-records, linked-every}

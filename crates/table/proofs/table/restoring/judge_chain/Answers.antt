@@ -14,47 +14,47 @@ use Rattle.table.specs.declared.fault.Layer.the-variants.{File}
 use Rattle.table.specs.declared.pair.Record.{Record}
 use Rattle.table.specs.Chain.{rows, row, head, next-in, modulus-in}
 use Rattle.table.specs.Faults.{fault, record-tests, chain-tests}
-use Rattle.table.specs.First.{firstOf}
+use Rattle.arithmetic.specs.Causes.{first-cause}
 use Rattle.table.proofs.Judged.{test-early, test-far, test-bad, test-on, test-over, test-end}
 use Rattle.table.proofs.Records.{row-at}
 use Rattle.table.proofs.table.restoring.judge_chain.Needs as need
 
 module _ (first k : ℕ) (rs : List Record) (step at next before : ℕ) (h : step < length rs)
     (is : next ≡ next-in (rows first rs) at) (was : before ≡ modulus-in (rows first rs) at)
-    (inv : firstOf (chain-tests (rows first rs) k (length rs) (length rs) 0) ≡ firstOf (chain-tests (rows first rs) k (length rs) (length rs - step) at)) where
-  start : firstOf (chain-tests (rows first rs) k (length rs) (length rs) 0)
-      ≡ firstOf (chain-tests (rows first rs) k (length rs) (suc (length rs - (step + 1))) at)
+    (inv : first-cause (chain-tests (rows first rs) k (length rs) (length rs) 0) ≡ first-cause (chain-tests (rows first rs) k (length rs) (length rs - step) at)) where
+  start : first-cause (chain-tests (rows first rs) k (length rs) (length rs) 0)
+      ≡ first-cause (chain-tests (rows first rs) k (length rs) (suc (length rs - (step + 1))) at)
   start =
       let e : length rs - step ≡ suc (length rs - (step + 1)) = omega arith in
-      inv ∙ ap (λ (left : ℕ). firstOf (chain-tests (rows first rs) k (length rs) left at)) e
+      inv ∙ ap (λ (left : ℕ). first-cause (chain-tests (rows first rs) k (length rs) left at)) e
 
-  early : (f : Fault) → f ≡ fault at (File Chain) → next ≡ 0 → Some f ≡ firstOf (chain-tests (rows first rs) k (length rs) (length rs) 0)
+  early : (f : Fault) → f ≡ fault at (File Chain) → next ≡ 0 → Some f ≡ first-cause (chain-tests (rows first rs) k (length rs) (length rs) 0)
   early f e z = ap (λ (x : Fault). Some x) e ∙ sym (start ∙ test-early (rows first rs) k (length rs) (length rs - (step + 1)) at (sym is ∙ z))
 
-  far : (f : Fault) → f ≡ fault next (File Chain) → next ≢ 0 → length rs < next → Some f ≡ firstOf (chain-tests (rows first rs) k (length rs) (length rs) 0)
+  far : (f : Fault) → f ≡ fault next (File Chain) → next ≢ 0 → length rs < next → Some f ≡ first-cause (chain-tests (rows first rs) k (length rs) (length rs) 0)
   far f e ne above =
       ap (λ (x : Fault). Some x) (e ∙ ap (λ (n : ℕ). fault n (File Chain)) is)
       ∙ sym (start ∙ test-far (rows first rs) k (length rs) (length rs - (step + 1)) at (λ z. ne (is ∙ z)) (omega arith))
 
   -- the tests of the record that the chain leads to, as they were made
-  tests : next ≢ 0 → firstOf (record-tests k before next (getD rs (next - 1) (head 0)))
-      ≡ firstOf (record-tests k (modulus-in (rows first rs) at) (next-in (rows first rs) at) (row (rows first rs) (next-in (rows first rs) at)))
+  tests : next ≢ 0 → first-cause (record-tests k before next (getD rs (next - 1) (head 0)))
+      ≡ first-cause (record-tests k (modulus-in (rows first rs) at) (next-in (rows first rs) at) (row (rows first rs) (next-in (rows first rs) at)))
   tests ne =
-      ap (λ (r : Record). firstOf (record-tests k before next r)) (sym (row-at first rs next (omega arith)))
-      ∙ ap (λ (m : ℕ). firstOf (record-tests k m next (row (rows first rs) next))) was
-      ∙ ap (λ (n : ℕ). firstOf (record-tests k (modulus-in (rows first rs) at) n (row (rows first rs) n))) is
+      ap (λ (r : Record). first-cause (record-tests k before next r)) (sym (row-at first rs next (omega arith)))
+      ∙ ap (λ (m : ℕ). first-cause (record-tests k m next (row (rows first rs) next))) was
+      ∙ ap (λ (n : ℕ). first-cause (record-tests k (modulus-in (rows first rs) at) n (row (rows first rs) n))) is
 
-  bad : (f : Fault) → next ≢ 0 → next ≤ length rs → Some f ≡ firstOf (record-tests k before next (getD rs (next - 1) (head 0)))
-      → Some f ≡ firstOf (chain-tests (rows first rs) k (length rs) (length rs) 0)
+  bad : (f : Fault) → next ≢ 0 → next ≤ length rs → Some f ≡ first-cause (record-tests k before next (getD rs (next - 1) (head 0)))
+      → Some f ≡ first-cause (chain-tests (rows first rs) k (length rs) (length rs) 0)
   bad f ne near found =
       sym (start ∙ test-bad (rows first rs) k (length rs) (length rs - (step + 1)) at f (λ z. ne (is ∙ z)) (omega arith) (sym (found ∙ tests ne)))
 
-  on : next ≢ 0 → next ≤ length rs → None ≡ firstOf (record-tests k before next (getD rs (next - 1) (head 0)))
-      → firstOf (chain-tests (rows first rs) k (length rs) (length rs) 0) ≡ firstOf (chain-tests (rows first rs) k (length rs) (length rs - (step + 1)) next)
+  on : next ≢ 0 → next ≤ length rs → None ≡ first-cause (record-tests k before next (getD rs (next - 1) (head 0)))
+      → first-cause (chain-tests (rows first rs) k (length rs) (length rs) 0) ≡ first-cause (chain-tests (rows first rs) k (length rs) (length rs - (step + 1)) next)
   on ne near none =
       start
       ∙ test-on (rows first rs) k (length rs) (length rs - (step + 1)) at (λ z. ne (is ∙ z)) (omega arith) (sym (none ∙ tests ne))
-      ∙ ap (λ (n : ℕ). firstOf (chain-tests (rows first rs) k (length rs) (length rs - (step + 1)) n)) (sym is)
+      ∙ ap (λ (n : ℕ). first-cause (chain-tests (rows first rs) k (length rs) (length rs - (step + 1)) n)) (sym is)
 
 pub returns-then-next-eq0 : need.returns-then-next-eq0
 returns-then-next-eq0 c =
@@ -89,11 +89,11 @@ loop-step-again c =
 
 -- no step is left
 last : (first k : ℕ) (rs : List Record) (step at : ℕ) → length rs ≤ step
-    → firstOf (chain-tests (rows first rs) k (length rs) (length rs) 0) ≡ firstOf (chain-tests (rows first rs) k (length rs) (length rs - step) at)
-    → firstOf (chain-tests (rows first rs) k (length rs) (length rs) 0) ≡ firstOf (chain-tests (rows first rs) k (length rs) 0 at)
+    → first-cause (chain-tests (rows first rs) k (length rs) (length rs) 0) ≡ first-cause (chain-tests (rows first rs) k (length rs) (length rs - step) at)
+    → first-cause (chain-tests (rows first rs) k (length rs) (length rs) 0) ≡ first-cause (chain-tests (rows first rs) k (length rs) 0 at)
 last first k rs step at h inv =
     let e : length rs - step ≡ 0 = omega arith in
-    inv ∙ ap (λ (left : ℕ). firstOf (chain-tests (rows first rs) k (length rs) left at)) e
+    inv ∙ ap (λ (left : ℕ). first-cause (chain-tests (rows first rs) k (length rs) left at)) e
 
 pub returns-then-next-ne0 : need.returns-then-next-ne0
 returns-then-next-ne0 c =
