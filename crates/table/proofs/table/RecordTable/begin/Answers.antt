@@ -11,6 +11,7 @@ pub ghost-self : need.ghost-self
 ghost-self c =
     let k = c .args .index in
     let none = c .clear .ensures .items in
-    let stands = not-false (index-stands k) (all-fail (begin-causes k) (sym (c .in-Continue-judge-index .ensures tt .answer)) .0) in
-    ( omega (arith, c .clear .ensures .capacity, c .args .self .now .room)
-    , (omega (arith, c .clear .ensures .len), (stands, (chained-none _ none, (every-none (record-fits k) _ none, tt)))))
+    let stands = not-false (index-stands k) (all-fail (begin-causes k) (sym (c .in-Continue-judge-index .ensures tt .answer)) .0) in (
+      omega (arith, c .clear .ensures .capacity, c .args .self .now .room),
+      (omega (arith, c .clear .ensures .len), (stands, (chained-none _ none, (every-none (record-fits k) _ none, tt)))),
+    )
