@@ -1,3 +1,3 @@
-// Tests of listings, their files and the lines.
+// Tests of listings, of their files and of the lines.
 #[cfg(test)]
 mod tests;
