@@ -1,4 +1,6 @@
 // Arithmetics modulo p and what they have in common, and the refusals of every call.
+#![tactic(auto)]
+
 mod balanced;
 mod either;
 mod fitness;

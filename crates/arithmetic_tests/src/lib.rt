@@ -1,4 +1,5 @@
 // Tests of the arithmetics and the digit sources: that they agree with each other and with plain division, and when making one refuses.
+#![tactic(auto)]
 #[cfg(test)]
 mod arithmetics;
 #[cfg(test)]

@@ -1,4 +1,5 @@
 // Putting bytes out into a lent output, and the two kinds of text line.
+#![tactic(auto)]
 mod put;
 mod text;
 

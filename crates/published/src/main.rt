@@ -1,4 +1,5 @@
 // Published Bernoulli numbers against the library: every value modulo several primes, by every way that there is.
+#![tactic(auto)]
 mod extremes;
 mod numeral;
 mod stop;

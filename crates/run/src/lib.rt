@@ -1,4 +1,5 @@
 // Runs: the terms of a sum, taken in shares with any arithmetic, and the residue that a whole run gives.
+#![tactic(auto)]
 mod carry;
 mod cells;
 mod count;

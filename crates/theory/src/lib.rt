@@ -1,5 +1,7 @@
 // The sums that give Bernoulli numbers modulo p. The definitions stand in specs/. Each function here does nothing: its
 // contract is a theorem about them, so that the crate is not proved without the theorem's proof.
+#![tactic(auto)]
+
 ghost use Rattle.std.specs.Prelude.{true, ◌≡◌};
 ghost use Rattle.theory.specs.Examples.{examples_test, TestsTold};
 ghost use Rattle.theory.specs.Theorems.{BernoulliExist, BernoulliUnique, PowerSumsGiveBernoulli, DirectGivesBernoulli};

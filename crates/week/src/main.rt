@@ -1,4 +1,5 @@
 // The week of a book, read off one session: every call that is made, with its answer.
+#![tactic(auto)]
 mod asked;
 mod brought;
 mod calls;

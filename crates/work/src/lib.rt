@@ -1,4 +1,5 @@
 // The work on one record: a run of its pair carried to its end, and the line that it gives.
+#![tactic(auto)]
 mod records;
 mod whole;
 
