@@ -20,7 +20,7 @@ pub enum EitherElement<X, Y> {
 
 // The element as one of the left side, by its residue there.
 fn left_part<W: Arithmetic, Y: Copy>(arithmetic: &W, e: EitherElement<W::Element, Y>) -> W::Element
-    ensures value { residue arithmetic.now result ≡ residue_on_left (residue arithmetic.now) e }
+    ensures value { W.residue arithmetic.now result ≡ residue_on_left (W.residue arithmetic.now) e }
 {
     match e {
         EitherElement::Left(x) => x,
@@ -30,7 +30,7 @@ fn left_part<W: Arithmetic, Y: Copy>(arithmetic: &W, e: EitherElement<W::Element
 
 // The element as one of the right side, by its residue there.
 fn right_part<W: Arithmetic, X: Copy>(arithmetic: &W, e: EitherElement<X, W::Element>) -> W::Element
-    ensures value { residue arithmetic.now result ≡ residue_on_right (residue arithmetic.now) e }
+    ensures value { W.residue arithmetic.now result ≡ residue_on_right (W.residue arithmetic.now) e }
 {
     match e {
         EitherElement::Left(_) => arithmetic.bring_in(0),

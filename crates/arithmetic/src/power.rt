@@ -6,7 +6,7 @@ use crate::traits::Arithmetic;
 
 // The power of an element, by squaring.
 pub fn raise<W: Arithmetic>(arithmetic: &W, base: W::Element, exponent: u32) -> W::Element
-    ensures value { residue arithmetic.now result ≡ residue arithmetic.now base ^ exponent % modulus arithmetic.now }
+    ensures value { W.residue arithmetic.now result ≡ W.residue arithmetic.now base ^ exponent % W.modulus arithmetic.now }
 {
     let mut power = arithmetic.bring_in(1);
     let mut square = base;
@@ -23,7 +23,7 @@ pub fn raise<W: Arithmetic>(arithmetic: &W, base: W::Element, exponent: u32) -> 
 
 // 1/a: the power a^(p − 2), which is 0 for 0.
 pub fn invert<W: Arithmetic>(arithmetic: &W, a: W::Element) -> W::Element
-    ensures value { residue arithmetic.now result ≡ inverse (modulus arithmetic.now) (residue arithmetic.now a) }
+    ensures value { W.residue arithmetic.now result ≡ inverse (W.modulus arithmetic.now) (W.residue arithmetic.now a) }
 {
     raise(arithmetic, a, arithmetic.modulus() - 2)
 }

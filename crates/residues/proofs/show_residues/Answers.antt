@@ -16,16 +16,16 @@ pub unwrap-line-requires : goal.unwrap-line-requires
 unwrap-line-requires c =
     tells
     (book c.loop-position.book)
-    (book c.work-record.new.book)
+    (book c.work_record.new.book)
     c.loop-position.position
-    c.work-record.result
-    c.work-record.ensures.worked
+    c.work_record.result
+    c.work_record.ensures.worked
     c.loop-position.invariant.0
     (omega (arith, c.loop-position.invariant.1, c.loop-position-test.true))
 
 pub loop-position-preserved : goal.loop-position-preserved
 loop-position-preserved c =
-    let stays = c.work-record.ensures.stays in (
-      still_waits (book c.loop-position.book) (book c.work-record.new.book) c.loop-position.position stays c.loop-position.invariant.0,
+    let stays = c.work_record.ensures.stays in (
+      still_waits (book c.loop-position.book) (book c.work_record.new.book) c.loop-position.position stays c.loop-position.invariant.0,
       ap length stays.chain_is ∙ c.loop-position.invariant.1,
     )

@@ -7,7 +7,7 @@ pub loop-left-init : goal.loop-left-init
 loop-left-init g c =
     let w = g.W.Arithmetic in
     let a = c.args.arithmetic.now in
-    gathered_one (w.modulus a) (w.residue a c.bring-in-power.result) (w.residue a c.args.base ^ c.args.exponent) c.bring-in-power.ensures.value
+    gathered_one (w.modulus a) (w.residue a c.bring_in-power.result) (w.residue a c.args.base ^ c.args.exponent) c.bring_in-power.ensures.value
 
 pub loop-left-preserved : goal.loop-left-preserved
 loop-left-preserved g c =

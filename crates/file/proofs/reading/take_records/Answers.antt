@@ -10,10 +10,10 @@ pub loop-record-init : goal.loop-record-init
 unfolding records_in
 loop-record-init c = (refl, refl)
 
-pub returns-in-default : goal.returns-in-default
-returns-in-default c =
+pub returns-in_default : goal.returns-in_default
+returns-in_default c =
     absurd
-    (omega (arith, c.in-default.ensures.value, ap length c.loop-record.invariant.1, length-drop (16 * c.loop-record.record-index) c.args.bytes.now))
+    (omega (arith, c.in_default.ensures.value, ap length c.loop-record.invariant.1, length-drop (16 * c.loop-record.record-index) c.args.bytes.now))
 
 pub loop-record-preserved : goal.loop-record-preserved
 loop-record-preserved c =

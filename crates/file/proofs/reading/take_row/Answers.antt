@@ -7,5 +7,5 @@ unfolding word_at
 returns c =
     record {
       value =
-          (c.from-le-bytes-next.ensures, c.from-le-bytes-modulus.ensures, c.from-le-bytes-generator.ensures, c.from-le-bytes-residue.ensures, take_rest c.args.bytes.now 16);
+          (c.from_le_bytes-next.ensures, c.from_le_bytes-modulus.ensures, c.from_le_bytes-generator.ensures, c.from_le_bytes-residue.ensures, take_rest c.args.bytes.now 16);
     }

@@ -19,17 +19,17 @@ loop-i-preserved c =
     let i = c.loop-i.i in
     let r = get_or rs i (head 0) in
     let front = take 16 was ++ flat_map record_bytes (take i rs) in
-    let out' = c.put-row.new.output in
+    let out' = c.put_row.new.output in
     let at = 16 * (i + 1) in
     let end = 16 * (i + 1 + 1) in
     let next : end ≡ at + 16 = omega arith in
     let long : length front ≡ at =
     omega (arith, length-append (take 16 was) (flat_map record_bytes (take i rs)), length_records (take i rs), length-take-le 16 was (omega arith), length-take-le i rs (omega arith))
     in
-    let bytes = row_bytes r.next r.modulus r.generator c.unwrap-or-residue.result in
-    let step = placed front bytes c.loop-i.output out' was at 16 end next long c.loop-i.invariant c.put-row.ensures.after in
+    let bytes = row_bytes r.next r.modulus r.generator c.unwrap_or-residue.result in
+    let step = placed front bytes c.loop-i.output out' was at 16 end next long c.loop-i.invariant c.put_row.ensures.after in
     step
-    ∙ ap (λ (xs : List ℕ). (front ++ xs) ++ drop end was) (spelled r c.unwrap-or-residue.result c.unwrap-or-residue.ensures)
+    ∙ ap (λ (xs : List ℕ). (front ++ xs) ++ drop end was) (spelled r c.unwrap_or-residue.result c.unwrap_or-residue.ensures)
     ∙ ap (λ (xs : List ℕ). xs ++ drop end was) (flat_map_more record_bytes (take 16 was) (take i rs) r)
     ∙ ap (λ (xs : List Record). take 16 was ++ flat_map record_bytes xs ++ drop end was) (sym (take_more rs i (head 0) c.loop-i-test.true))
 

@@ -11,6 +11,6 @@ returns c =
     let four : at + (at + 4 - at) ≡ at + 4 = omega arith in
     record {
       after =
-          ap (λ (ys : List ℕ). take at out ++ (ys ++ drop (at + 4 - at) (drop at out))) (c.copy-from-slice.ensures.after ∙ c.to-le-bytes.ensures)
+          ap (λ (ys : List ℕ). take at out ++ (ys ++ drop (at + 4 - at) (drop at out))) (c.copy_from_slice.ensures.after ∙ c.to_le_bytes.ensures)
           ∙ ap (λ (zs : List ℕ). take at out ++ (word_bytes c.args.word ++ zs)) (drop-drop (at + 4 - at) at out ∙ ap (λ (i : ℕ). drop i out) four);
     }

@@ -31,15 +31,15 @@ returns c =
     let n = length slice in
     let was = c.args.output.now in
     let row = row_bytes c.first.result c.index.result n 0 in
-    let out = c.put-row.new.output in
-    let out' = c.put-records.new.output in
+    let out = c.put_row.new.output in
+    let out' = c.put_records.new.output in
     let end : 16 * (n + 1) ≡ 16 + 16 * n = omega arith in
     let put : out' ≡ take 16 out ++ (flat_map record_bytes slice ++ drop (16 + 16 * n) out) =
-    c.put-records.ensures.after
+    c.put_records.ensures.after
     ∙ append_assoc (take 16 out) (flat_map record_bytes slice) (drop (16 * (n + 1)) out)
     ∙ ap (λ (k : ℕ). take 16 out ++ (flat_map record_bytes slice ++ drop k out)) end
     in
-    let whole = placed row (flat_map record_bytes slice) out out' was 16 (16 * n) (16 * (n + 1)) end (length_row c.first.result c.index.result n 0) c.put-row.ensures.after put in
+    let whole = placed row (flat_map record_bytes slice) out out' was 16 (16 * n) (16 * (n + 1)) end (length_row c.first.result c.index.result n 0) c.put_row.ensures.after put in
     record {
       puts = (
         omega (arith, length-encode t, ap length same),

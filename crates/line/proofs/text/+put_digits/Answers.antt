@@ -21,21 +21,21 @@ joined n front text ended h fits put before =
     ∙ append_assoc front (decimal (n / 10)) ((48 + n % 10) ∷ [])
     ∙ ap (λ (xs : List ℕ). front ++ xs) (sym (decimal_step n h (omega arith)))
 
-pub put-text-requires : goal.put-text-requires
-put-text-requires t c = omega (arith, one_long c.args.n c.if-n-lt10.true)
+pub put_text-requires : goal.put_text-requires
+put_text-requires t c = omega (arith, one_long c.args.n c.if-n-lt10.true)
 
-pub put-text-requires-2 : goal.put-text-requires-2
-put-text-requires-2 t c = omega (arith, longer c.args.n c.if-n-lt10.false c.ranges.n.fits)
+pub put_text-requires-2 : goal.put_text-requires-2
+put_text-requires-2 t c = omega (arith, longer c.args.n c.if-n-lt10.false c.ranges.n.fits)
 
-pub put-digits-end-requires : goal.put-digits-end-requires
-put-digits-end-requires t c = omega (arith, longer c.args.n c.if-n-lt10.false c.ranges.n.fits)
+pub put_digits-end-requires : goal.put_digits-end-requires
+put_digits-end-requires t c = omega (arith, longer c.args.n c.if-n-lt10.false c.ranges.n.fits)
 
 pub returns-then-n-lt10 : goal.returns-then-n-lt10
 returns-then-n-lt10 t c =
     record {
       count = omega (arith, one_long c.args.n c.if-n-lt10.true);
       front =
-          c.put-text.ensures.front
+          c.put_text.ensures.front
           ∙ ap (λ (xs : List ℕ). take c.args.at c.args.text.now ++ xs) (sym (decimal_digit c.args.n c.if-n-lt10.true));
     }
 
@@ -44,5 +44,5 @@ returns t c =
     record {
       count = omega (arith, longer c.args.n c.if-n-lt10.false c.ranges.n.fits);
       front =
-          joined c.args.n (take c.args.at c.args.text.now) _ _ c.if-n-lt10.false c.ranges.n.fits c.put-text-2.ensures.front c.put-digits-end.ensures.front;
+          joined c.args.n (take c.args.at c.args.text.now) _ _ c.if-n-lt10.false c.ranges.n.fits c.put_text-2.ensures.front c.put_digits-end.ensures.front;
     }

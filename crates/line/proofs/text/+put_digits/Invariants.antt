@@ -1,5 +1,5 @@
 use Rattle.line.proofs.text.+put_digits.Given as goal
 
 -- each call has one digit less to put
-abbrev pub decreases-put-digits : goal.decreases-put-digits
-decreases-put-digits l = l.n
+abbrev pub decreases-put_digits : goal.decreases-put_digits
+decreases-put_digits l = l.n

@@ -12,7 +12,7 @@ named k kind front text same put =
 pub returns-in-Direct : goal.returns-in-Direct
 returns-in-Direct c =
     record {
-      front = named Kind.Direct c.args.kind (take c.args.at c.args.text.now) _ (sym c.in-Direct.is) c.put-text.ensures.front;
+      front = named Kind.Direct c.args.kind (take c.args.at c.args.text.now) _ (sym c.in-Direct.is) c.put_text.ensures.front;
       bound = omega arith;
     }
 

@@ -9,10 +9,10 @@ returns c =
     let bytes = c.args.bytes.now in
     let text = c.args.text.now in
     let end = at + length bytes in
-    let copied = c.copy-from-slice.ensures.after in
+    let copied = c.copy_from_slice.ensures.after in
     record {
       count = refl;
       front =
-          take-put_mid at (end - at) text c.copy-from-slice.new.self end (omega (arith, ap length copied)) (omega arith)
+          take-put_mid at (end - at) text c.copy_from_slice.new.self end (omega (arith, ap length copied)) (omega arith)
           ∙ ap (λ (ys : List ℕ). take at text ++ ys) copied;
     }

@@ -9,8 +9,8 @@ loop-digit-preserved g c =
     let ds = c.args.digits.now in
     let i = c.loop-digit.digit-index in
     let n = c.loop-digit.rest in (
-      mod-lt (10 * n + c.saturating-sub.result) (omega (arith, c.loop-digit.invariant.0)),
-      ap (λ (d : ℕ). spelled ((10 * n + d) % p) (drop (i + 1) ds) % p) c.saturating-sub.ensures
+      mod-lt (10 * n + c.saturating_sub.result) (omega (arith, c.loop-digit.invariant.0)),
+      ap (λ (d : ℕ). spelled ((10 * n + d) % p) (drop (i + 1) ds) % p) c.saturating_sub.ensures
           ∙ spelled_step p n ds i c.loop-digit-test.true
           ∙ c.loop-digit.invariant.1,
     )

@@ -13,8 +13,8 @@ pub returns-then-negative : goal.returns-then-negative
 returns-then-negative g c =
     let p = g.W.Arithmetic.modulus c.args.arithmetic.now in
     let n = spelled 0 c.args.digits.now in
-    let zero_is = c.bring-in.ensures.value in
-    let size = size_is p n c.digits-residue.result _ c.bring-in-size.ensures.value c.digits-residue.ensures.value in
+    let zero_is = c.bring_in.ensures.value in
+    let size = size_is p n c.digits_residue.result _ c.bring_in-size.ensures.value c.digits_residue.ensures.value in
     record {
       value =
           c.sub.ensures.value
@@ -29,6 +29,6 @@ returns-else-negative g c =
     let n = spelled 0 c.args.digits.now in
     record {
       value =
-          size_is p n c.digits-residue.result _ c.bring-in-size.ensures.value c.digits-residue.ensures.value
+          size_is p n c.digits_residue.result _ c.bring_in-size.ensures.value c.digits_residue.ensures.value
           ∙ ap (λ (b : Bool). signed_residue p b c.args.digits.now) (sym c.if-negative.false);
     }

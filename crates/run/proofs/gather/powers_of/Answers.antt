@@ -8,7 +8,7 @@ loop-u-init g c =
     let w = g.W.Arithmetic in
     let a = c.args.arithmetic.now in (
       (λ k h. absurd (omega (arith, h))),
-      c.bring-in-power.ensures.value ∙ ap (λ (n : ℕ). n % w.modulus a) (sym (pow-zero (w.residue a c.args.ratio))),
+      c.bring_in-power.ensures.value ∙ ap (λ (n : ℕ). n % w.modulus a) (sym (pow-zero (w.residue a c.args.ratio))),
       refl,
     )
 
@@ -22,10 +22,10 @@ loop-u-preserved g c =
     let inv = c.loop-u.invariant in (
       below_more _ _
           (λ k h. let ne : k ≢ u = omega arith in rw get_or-set_other (inv.0 k h))
-          (let lt : u < length c.loop-u.powers = omega (arith, c.loop-u-test.true, inv.2) in get_or-set_same c.loop-u.powers u c.take-out.result 0 lt ∙ c.take-out.ensures.value ∙ inv.1),
+          (let lt : u < length c.loop-u.powers = omega (arith, c.loop-u-test.true, inv.2) in get_or-set_same c.loop-u.powers u c.take_out.result 0 lt ∙ c.take_out.ensures.value ∙ inv.1),
       c.mul-power.ensures.value ∙ ap (λ (n : ℕ). n * r % m) inv.1 ∙ mul_mod_left (r ^ u) r m
           ∙ ap (λ (n : ℕ). n % m) (sym (ap (λ (n : ℕ). r ^ n) (add-one u) ∙ pow-suc r u)),
-      length-set c.loop-u.powers u c.take-out.result ∙ inv.2,
+      length-set c.loop-u.powers u c.take_out.result ∙ inv.2,
     )
 
 pub returns : goal.returns

@@ -7,6 +7,6 @@ returns g c =
     let m = g.W.Arithmetic.modulus c.args.arithmetic.now in
     record {
       value = ap (λ (n : ℕ). eqb n 1)
-          (c.take-out.ensures.value ∙ c.raise-power.ensures.value
-          ∙ ap (λ (n : ℕ). n ^ c.args.exponent % m) c.bring-in.ensures.value ∙ pow-mod 2 c.args.exponent m);
+          (c.take_out.ensures.value ∙ c.raise-power.ensures.value
+          ∙ ap (λ (n : ℕ). n ^ c.args.exponent % m) c.bring_in.ensures.value ∙ pow-mod 2 c.args.exponent m);
     }

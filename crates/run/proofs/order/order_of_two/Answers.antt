@@ -3,7 +3,7 @@ use Rattle.theory.specs.Doubling.{order}
 use Rattle.theory.specs.Pairs.{FitModulus}
 use Rattle.run.proofs.Divisors.{Tried, tried_none, tried_more, tried_least, least_is_order, cofactor_of, cofactor_falls}
 use Rattle.run.proofs.order.order_of_two.Goals as goal
-use Rattle.run.proofs.order.order_of_two.Goals.{then-whole-d-eq0+else-leaves-one+then-leaves-one-2, then-whole-d-eq0+else-leaves-one+else-leaves-one-2, else-whole-d-eq0}
+use Rattle.run.proofs.order.order_of_two.Goals.{then-whole-d-eq0+else-leaves_one+then-leaves_one-2, then-whole-d-eq0+else-leaves_one+else-leaves_one-2, else-whole-d-eq0}
 
 begun : (p m : ℕ) → m ≡ p → 5 ≤ p → 2 ^ (p - 1) % p ≡ 1 → Tried p (m - 1) 1 (m - 1)
 begun p m same low leaves = tried_none p (m - 1) (omega arith) (ap (λ (n : ℕ). 2 ^ (n - 1) % p) same ∙ leaves)
@@ -39,22 +39,22 @@ loop-d-init g c =
     let a = c.args.arithmetic.now in
     begun (g.W.Arithmetic.modulus a) c.modulus-whole.result c.modulus-whole.ensures.value (g.met.W.Arithmetic.fit a).1 c.requires.whole
 
-pub nonzero-div-whole : goal.nonzero-div-whole
-nonzero-div-whole g c = c.loop-d.invariant.positive
+pub nonzero_div-whole : goal.nonzero_div-whole
+nonzero_div-whole g c = c.loop-d.invariant.positive
 
-pub nonzero-rem-whole : goal.nonzero-rem-whole
-nonzero-rem-whole g c = c.loop-d.invariant.positive
+pub nonzero_rem-whole : goal.nonzero_rem-whole
+nonzero_rem-whole g c = c.loop-d.invariant.positive
 
-pub returns-then-leaves-one : goal.returns-then-leaves-one
-returns-then-leaves-one g c =
+pub returns-then-leaves_one : goal.returns-then-leaves_one
+returns-then-leaves_one g c =
     let a = c.args.arithmetic.now in
     record {
       value = found (g.W.Arithmetic.modulus a) c.modulus-whole.result c.loop-d.d c.loop-d.least c.modulus-whole.ensures.value
-          (g.met.W.Arithmetic.fit a) c.requires.whole c.loop-d.invariant (true-eqb _ 1 c.if-leaves-one.ensures.value);
+          (g.met.W.Arithmetic.fit a) c.requires.whole c.loop-d.invariant (true-eqb _ 1 c.if-leaves_one.ensures.value);
     }
 
-pub nonzero-div-least : goal.nonzero-div-least
-nonzero-div-least g c = c.loop-d.invariant.positive
+pub nonzero_div-least : goal.nonzero_div-least
+nonzero_div-least g c = c.loop-d.invariant.positive
 
 pub loop-d-smaller : goal.loop-d-smaller
 loop-d-smaller g c = omega (arith, c.loop-d-test.true, div-le_self (c.modulus-whole.result - 1) c.loop-d.d)
@@ -67,14 +67,14 @@ loop-d-preserved g c =
     let d = c.loop-d.d in
     let low = (g.met.W.Arithmetic.fit a).1 in
     elim c.if-whole-d-eq0.branch [
-      | then-whole-d-eq0+else-leaves-one+then-leaves-one-2 w ↦
+      | then-whole-d-eq0+else-leaves_one+then-leaves_one-2 w ↦
           subst (λ (n : ℕ). Tried p whole (d + 1) n) (sym w.least-is)
           (lower p whole d c.loop-d.least (omega (arith, c.modulus-whole.ensures.value, low)) c.loop-d.invariant w.if-whole-d-eq0.true
-          (false-eqb _ 1 w.if-leaves-one.ensures.value) (true-eqb _ 1 w.if-leaves-one-2.ensures.value))
-      | then-whole-d-eq0+else-leaves-one+else-leaves-one-2 w ↦
+          (false-eqb _ 1 w.if-leaves_one.ensures.value) (true-eqb _ 1 w.if-leaves_one-2.ensures.value))
+      | then-whole-d-eq0+else-leaves_one+else-leaves_one-2 w ↦
           subst (λ (n : ℕ). Tried p whole (d + 1) n) (sym w.least-is)
           (neither p whole d c.loop-d.least c.loop-d.invariant
-          (false-eqb _ 1 w.if-leaves-one.ensures.value) (false-eqb _ 1 w.if-leaves-one-2.ensures.value))
+          (false-eqb _ 1 w.if-leaves_one.ensures.value) (false-eqb _ 1 w.if-leaves_one-2.ensures.value))
       | else-whole-d-eq0 w ↦
           subst (λ (n : ℕ). Tried p whole (d + 1) n) (sym w.least-is) (skipped p whole d c.loop-d.least c.loop-d.invariant w.if-whole-d-eq0.false)
     ]

@@ -15,7 +15,7 @@ odd_order p n is odd =
     is ∙ ap (λ b. cond b (order p / 2) (order p)) (sym test)
 
 pub returns-then-order-eq0 : goal.returns-then-order-eq0
-returns-then-order-eq0 g c = record { value = even_order _ _ c.order-of-two-order.ensures.value c.if-order-eq0.true }
+returns-then-order-eq0 g c = record { value = even_order _ _ c.order_of_two-order.ensures.value c.if-order-eq0.true }
 
 pub returns-else-order-eq0 : goal.returns-else-order-eq0
-returns-else-order-eq0 g c = record { value = odd_order _ _ c.order-of-two-order.ensures.value c.if-order-eq0.false }
+returns-else-order-eq0 g c = record { value = odd_order _ _ c.order_of_two-order.ensures.value c.if-order-eq0.false }

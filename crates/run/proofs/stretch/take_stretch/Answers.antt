@@ -11,8 +11,8 @@ loop-i-init g c =
     along_none (w.modulus a) (w.residue a c.args.ratio) (w.residue a c.args.from.sum) c.args.from.point (w.residue a c.args.from.weight)
     (g.met.W.Arithmetic.under a c.args.from.sum) c.requires.below (g.met.W.Arithmetic.under a c.args.from.weight)
 
-pub overflow-mul-double : goal.overflow-mul-double
-overflow-mul-double g c =
+pub overflow_mul-double : goal.overflow_mul-double
+overflow_mul-double g c =
     let a = c.args.arithmetic.now in
     let fit = g.met.W.Arithmetic.fit a in
     let positive : 0 < g.W.Arithmetic.modulus a = omega (arith, fit.1) in

@@ -18,8 +18,8 @@ loop-call-init g c =
 pub make-requires : goal.make-requires
 make-requires g c = let inv = c.loop-call.invariant in record { room = omega (arith, inv.5, c.in-Some.ensures.steps.1) }
 
-pub push-reserved-requires : goal.push-reserved-requires
-push-reserved-requires g c = let inv = c.loop-call.invariant in omega (arith, inv.4, c.in-Some.ensures.steps.1)
+pub push_reserved-requires : goal.push_reserved-requires
+push_reserved-requires g c = let inv = c.loop-call.invariant in omega (arith, inv.4, c.in-Some.ensures.steps.1)
 
 pub loop-call-preserved : goal.loop-call-preserved
 loop-call-preserved g c =
@@ -32,7 +32,7 @@ loop-call-preserved g c =
     let rest = into_iter_items c.next.new.self in
     let s = c.args.state.now in
     let before = vec_items c.args.answers.now in
-    let after = vec_items c.push-reserved.new.self in (
+    let after = vec_items c.push_reserved.new.self in (
       tt,
       tt,
       inv.2 ∙ ap (λ (l : List (BookCall g.row.W.Denot g.row.D.Denot)). came ++ l) steps.0 ∙ sym (append_assoc came (call ∷ []) rest),
@@ -40,8 +40,8 @@ loop-call-preserved g c =
           (sym (map_push deed came call))
           (went_more (book s.book) (book c.loop-call.state.book) (book c.make.new.self.book) (vec_items s.runs) (vec_items c.loop-call.state.runs)
           (vec_items c.make.new.self.runs) (map deed came) (deed call) c.make.result before (vec_items c.loop-call.answers) after inv.3 turn.goes
-          c.push-reserved.ensures.items),
-      omega (arith, c.push-reserved.ensures.len, c.push-reserved.ensures.capacity, inv.4, steps.1),
+          c.push_reserved.ensures.items),
+      omega (arith, c.push_reserved.ensures.len, c.push_reserved.ensures.capacity, inv.4, steps.1),
       omega (arith, turn.few, turn.capacity, inv.5, steps.1),
     )
 

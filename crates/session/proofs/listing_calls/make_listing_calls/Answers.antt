@@ -12,8 +12,8 @@ use Rattle.session.proofs.listing_calls.make_listing_calls.Goals as goal
 pub loop-call-init : goal.loop-call-init
 loop-call-init c = (went_none (listing c.args.on.now) [] (vec_items c.args.answers.now), omega arith, refl)
 
-pub push-reserved-requires : goal.push-reserved-requires
-push-reserved-requires c = omega (arith, c.loop-call.invariant.1, c.loop-call.invariant.2, c.requires.room)
+pub push_reserved-requires : goal.push_reserved-requires
+push_reserved-requires c = omega (arith, c.loop-call.invariant.1, c.loop-call.invariant.2, c.requires.room)
 
 pub loop-call-preserved : goal.loop-call-preserved
 loop-call-preserved c =
@@ -24,14 +24,14 @@ loop-call-preserved c =
     sym (map_push listing_deed (take i calls) call) ∙ ap (map listing_deed) (sym (take_more calls i (Begin 0) c.loop-call-test.true))
     in
     let t = listing c.args.on.now in
-    let t' = listing c.make-listing-call.new.on in
+    let t' = listing c.make_listing_call.new.on in
     let before = vec_items c.args.answers.now in
-    let after = vec_items c.push-reserved.new.self in (
+    let after = vec_items c.push_reserved.new.self in (
       subst (λ (ds : List Deed). Went t [] t' [] ds before after) deeds
-          (went_more t (listing c.loop-call.on) t' [] [] [] (map listing_deed (take i calls)) (listing_deed call) c.make-listing-call.result before
-          (vec_items c.loop-call.answers) after c.loop-call.invariant.0 c.make-listing-call.ensures.goes c.push-reserved.ensures.items),
-      omega (arith, c.push-reserved.ensures.len, c.loop-call.invariant.1),
-      c.push-reserved.ensures.capacity ∙ c.loop-call.invariant.2,
+          (went_more t (listing c.loop-call.on) t' [] [] [] (map listing_deed (take i calls)) (listing_deed call) c.make_listing_call.result before
+          (vec_items c.loop-call.answers) after c.loop-call.invariant.0 c.make_listing_call.ensures.goes c.push_reserved.ensures.items),
+      omega (arith, c.push_reserved.ensures.len, c.loop-call.invariant.1),
+      c.push_reserved.ensures.capacity ∙ c.loop-call.invariant.2,
     )
 
 pub returns : goal.returns

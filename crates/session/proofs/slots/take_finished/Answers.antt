@@ -19,7 +19,7 @@ returns-in-Finished c =
     let n = c.args.number in
     record {
       taken = (
-        taken_is xs n c.index-mut.result.now _ (omega (arith, c.len.ensures, c.args.runs.now.ok.0)) c.index-mut.ensures.value
+        taken_is xs n c.index_mut.result.now _ (omega (arith, c.len.ensures, c.args.runs.now.ok.0)) c.index_mut.ensures.value
             (sym c.in-Finished.is ∙ c.replace.ensures.value),
         ap (λ (s : Slot). set xs n s) c.replace.ensures.after,
       );
@@ -27,17 +27,17 @@ returns-in-Finished c =
       capacity = refl;
     }
 
-pub returns-in-default : goal.returns-in-default
-returns-in-default c =
+pub returns-in_default : goal.returns-in_default
+returns-in_default c =
     let xs = vec_items c.args.runs.now in
     let n = c.args.number in
-    let y = c.index-mut.result.now in
+    let y = c.index_mut.result.now in
     let s = c.replace.result in
     record {
       taken = (
-        ap unspent_at (place_at xs n s (taken_is xs n y s (omega (arith, c.len.ensures, c.args.runs.now.ok.0)) c.index-mut.ensures.value c.replace.ensures.value))
-            ∙ not_finished s c.in-default.not-Finished,
-        put_back xs n y s c.replace.new.dest c.index-mut.ensures.value c.replace.ensures.value,
+        ap unspent_at (place_at xs n s (taken_is xs n y s (omega (arith, c.len.ensures, c.args.runs.now.ok.0)) c.index_mut.ensures.value c.replace.ensures.value))
+            ∙ not_finished s c.in_default.not-Finished,
+        put_back xs n y s c.replace.new.dest c.index_mut.ensures.value c.replace.ensures.value,
       );
       len = refl;
       capacity = refl;

@@ -8,10 +8,10 @@ use Rattle.session.proofs.whole.work.Goals as goal
 pub returns : goal.returns
 returns g c =
     record {
-      law = went_whole (listing c.in-ok-listing.listing) (listing c.make-listing-calls.new.on) (book c.release-book.result) (book c.make-book-calls.new.state.book)
-          (vec_items c.in-ok-runs.runs) (vec_items c.make-book-calls.new.state.runs)
+      law = went_whole (listing c.in_ok-listing.listing) (listing c.make_listing_calls.new.on) (book c.release-book.result) (book c.make_book_calls.new.state.book)
+          (vec_items c.in_ok-runs.runs) (vec_items c.make_book_calls.new.state.runs)
           (map listing_deed c.args.first.now) (map (book_deed g.W.Arithmetic.modulus g.D.DigitSource.modulus) (vec_items c.args.then))
-          (vec_items c.in-ok-answers.answers) (vec_items c.make-listing-calls.new.answers) (vec_items c.make-book-calls.new.answers)
-          c.make-listing-calls.ensures.went c.make-book-calls.ensures.went
-          c.in-ok-listing.ensures.made c.in-ok-answers.ensures.items c.release-book.ensures.same c.in-ok-runs.ensures.items;
+          (vec_items c.in_ok-answers.answers) (vec_items c.make_listing_calls.new.answers) (vec_items c.make_book_calls.new.answers)
+          c.make_listing_calls.ensures.went c.make_book_calls.ensures.went
+          c.in_ok-listing.ensures.made c.in_ok-answers.ensures.items c.release-book.ensures.same c.in_ok-runs.ensures.items;
     }

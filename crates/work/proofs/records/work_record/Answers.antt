@@ -13,26 +13,26 @@ unworked c =
     let b = c.args.book.now in
     let t = book b in
     subst (λ (o : Option Pair). WorkedAt t t o None)
-    (sym (filled_already t b.table.rising c.args.position c.in-ok-pair.pair (sym c.in-ok-pair.ensures.value) c.in-default.field-0 c.in-default.ensures.opened))
+    (sym (filled_already t b.table.rising c.args.position c.in_ok-pair.pair (sym c.in_ok-pair.ensures.value) c.in_default.field-0 c.in_default.ensures.opened))
     (refl, refl)
 
-pub returns-in-default : goal.returns-in-default
-returns-in-default c =
+pub returns-in_default : goal.returns-in_default
+returns-in_default c =
     let b = c.args.book.now in
     record { worked = unworked c; stays = stays (book b) (book b) c.args.position None b.table.rising (unworked c) }
 
 -- the record is worked
 filled_in : (c : goal.After-unwrap)
-    → WorkedAt (book c.args.book.now) (book c.fill.new.self) (waiting_at (book c.args.book.now) c.args.position) (Some c.residue-line-line.result)
+    → WorkedAt (book c.args.book.now) (book c.fill.new.self) (waiting_at (book c.args.book.now) c.args.position) (Some c.residue_line-line.result)
 filled_in c =
     let b = c.args.book.now in
     let t = book b in
     let after = book c.fill.new.self in
-    let f = c.work-run-finished.result in
-    worked t b.table.rising c.args.position c.in-ok-pair.pair (sym c.in-ok-pair.ensures.value) after c.in-Ok.run' f c.residue-line-line.result c.unwrap.result
+    let f = c.work_run-finished.result in
+    worked t b.table.rising c.args.position c.in_ok-pair.pair (sym c.in_ok-pair.ensures.value) after c.in-Ok.run' f c.residue_line-line.result c.unwrap.result
     c.in-Ok.ensures.opened
-    c.work-run-finished.ensures.result
-    c.residue-line-line.ensures.value
+    c.work_run-finished.ensures.result
+    c.residue_line-line.ensures.value
     (subst (λ (r : Result (Unit {0}) (Refusal × FinishedResidue)). FilledIn t after f r) c.unwrap.ensures c.fill.ensures.filled)
 
 pub returns : goal.returns
@@ -40,5 +40,5 @@ returns c =
     let b = c.args.book.now in
     record {
       worked = filled_in c;
-      stays = stays (book b) (book c.fill.new.self) c.args.position (Some c.residue-line-line.result) b.table.rising (filled_in c);
+      stays = stays (book b) (book c.fill.new.self) c.args.position (Some c.residue_line-line.result) b.table.rising (filled_in c);
     }

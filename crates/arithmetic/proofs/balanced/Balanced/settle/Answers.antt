@@ -11,9 +11,9 @@ returns-then-rest-modulus c =
     let positive : 0 < p = omega (arith, c.args.self.now.fit.1) in
     let small : p < 2147483648 = omega (arith, c.args.self.now.fit.2) in
     let under : remainder p n < p = remainder_under p n positive in
-    let rest : c.rem-euclid-rest.result ≡ pos (remainder p n) =
-    remainder_words p n c.rem-euclid-rest.result (omega arith) c.ranges.n c.rem-euclid-rest.ensures.value in
-    let z : ℤ = to_z w32 (of_z w32 (to_z w64 (of_z w64 (to_z w64 (of_z w64 c.rem-euclid-rest.result) -ℤ to_z w64 p)))) in
+    let rest : c.rem_euclid-rest.result ≡ pos (remainder p n) =
+    remainder_words p n c.rem_euclid-rest.result (omega arith) c.ranges.n c.rem_euclid-rest.ensures.value in
+    let z : ℤ = to_z w32 (of_z w32 (to_z w64 (of_z w64 (to_z w64 (of_z w64 c.rem_euclid-rest.result) -ℤ to_z w64 p)))) in
     let above : p / 2 < remainder p n = omega (arith, ints, c.if-rest-modulus.true) in
     let less : up z + p ≡ remainder p n + down z = omega (arith, ints) in
     record {
@@ -28,9 +28,9 @@ returns-else-rest-modulus c =
     let positive : 0 < p = omega (arith, c.args.self.now.fit.1) in
     let small : p < 2147483648 = omega (arith, c.args.self.now.fit.2) in
     let under : remainder p n < p = remainder_under p n positive in
-    let rest : c.rem-euclid-rest.result ≡ pos (remainder p n) =
-    remainder_words p n c.rem-euclid-rest.result (omega arith) c.ranges.n c.rem-euclid-rest.ensures.value in
-    let z : ℤ = to_z w32 (of_z w32 (to_z w64 (of_z w64 c.rem-euclid-rest.result))) in
+    let rest : c.rem_euclid-rest.result ≡ pos (remainder p n) =
+    remainder_words p n c.rem_euclid-rest.result (omega arith) c.ranges.n c.rem_euclid-rest.ensures.value in
+    let z : ℤ = to_z w32 (of_z w32 (to_z w64 (of_z w64 c.rem_euclid-rest.result))) in
     let most : remainder p n ≤ p / 2 = omega (arith, ints, c.if-rest-modulus.false) in
     let same : z ≡ pos (remainder p n) = omega (arith, ints) in
     record {

@@ -8,11 +8,11 @@ taken_below c =
     high_below c.args.self.now.modulus (c.args.t % 4294967296 * c.args.self.now.reciprocal % 4294967296) 4294967296
     (omega (arith, c.args.self.now.fit.1)) (omega arith) (omega arith)
 
-pub overflow-add-result : goal.overflow-add-result
-overflow-add-result c = omega (arith, taken_below c, c.args.self.now.fit.2)
+pub overflow_add-result : goal.overflow_add-result
+overflow_add-result c = omega (arith, taken_below c, c.args.self.now.fit.2)
 
-pub overflow-sub-result : goal.overflow-sub-result
-overflow-sub-result c = omega (arith, taken_below c)
+pub overflow_sub-result : goal.overflow_sub-result
+overflow_sub-result c = omega (arith, taken_below c)
 
 pub returns-then-high-taken : goal.returns-then-high-taken
 returns-then-high-taken c =

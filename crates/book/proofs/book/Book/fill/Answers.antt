@@ -13,8 +13,8 @@ use Rattle.book.proofs.Refusals.{filling}
 use Rattle.book.proofs.Results.{finished_worked, result_under}
 use Rattle.book.proofs.book.Book.fill.Goals as goal
 
-pub invariant-of-self : goal.invariant-of-self
-invariant-of-self c =
+pub invariant_of-self : goal.invariant_of-self
+invariant_of-self c =
     let t = contents c.args.self.now.table in
     let f = c.args.finished in
     let n = c.in-Ok.number in

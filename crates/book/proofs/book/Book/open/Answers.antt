@@ -10,6 +10,6 @@ returns c =
     let r = c.in-Some.record in
     record {
       opened =
-          opened t c.args.kind c.args.modulus r (sym c.in-Some.ensures.value) (sym c.if-is-some.ensures) c.in-Some.ensures.fit c.open.result
+          opened t c.args.kind c.args.modulus r (sym c.in-Some.ensures.value) (sym c.if-is_some.ensures) c.in-Some.ensures.fit c.open.result
           (subst (λ (k : ℕ). run-calls.Opened c.args.kind k r.modulus r.generator c.open.result) c.index.ensures.value c.open.ensures.opened);
     }

@@ -19,12 +19,12 @@ loop-record-preserved c =
     let rs = c.args.records.now in
     let i = c.loop-record.record-index in
     let more = step rs i c.loop-record-test.true in
-    elim c.if-is-some.branch [
+    elim c.if-is_some.branch [
       | then-is-some w ↦
-          let e = more ∙ ap (λ (b : Bool). cond b 1 0 + filled_count (drop (c.loop-record.record-index + 1) c.args.records.now)) (sym w.if-is-some.ensures) in
+          let e = more ∙ ap (λ (b : Bool). cond b 1 0 + filled_count (drop (c.loop-record.record-index + 1) c.args.records.now)) (sym w.if-is_some.ensures) in
           (omega (arith, e, w.filled-is, c.loop-record.invariant.0), omega (arith, w.filled-is, c.loop-record.invariant.1))
       | else-is-some w ↦
-          let e = more ∙ ap (λ (b : Bool). cond b 1 0 + filled_count (drop (c.loop-record.record-index + 1) c.args.records.now)) (sym w.if-is-some.ensures) in
+          let e = more ∙ ap (λ (b : Bool). cond b 1 0 + filled_count (drop (c.loop-record.record-index + 1) c.args.records.now)) (sym w.if-is_some.ensures) in
           (omega (arith, e, w.filled-is, c.loop-record.invariant.0), omega (arith, w.filled-is, c.loop-record.invariant.1))
     ]
 

@@ -3,8 +3,8 @@ use Rattle.table.specs.Tables.{contents}
 use Rattle.book.proofs.Waiting.{begun_waits}
 use Rattle.book.proofs.listing.Listing.begin.Goals as goal
 
-pub invariant-of-self : goal.invariant-of-self
-invariant-of-self c = (
+pub invariant_of-self : goal.invariant_of-self
+invariant_of-self c = (
   begun_waits (is_ok c.begin.result) (contents c.args.self.now.table) (contents c.begin.new.self) c.args.index c.begin.ensures.after c.args.self.now.waiting,
   tt,
 )

@@ -3,8 +3,8 @@ use Rattle.table.specs.Tables.{contents}
 use Rattle.book.proofs.Files.{read_waits, written_again, found_again}
 use Rattle.book.proofs.listing.Listing.read.Goals as goal
 
-pub invariant-of-self : goal.invariant-of-self
-invariant-of-self c =
+pub invariant_of-self : goal.invariant_of-self
+invariant_of-self c =
     (read_waits c.args.bytes.now (contents c.read.new.table) c.read.result c.read.ensures.answer c.read.ensures.after, tt)
 
 pub returns : goal.returns

@@ -1,8 +1,8 @@
 use Rattle.std.proofs.Common.{◌*◌, ◌/◌, ◌%◌, ◌<◌, div-lt_iff_lt-mul, arith}
 use Rattle.run.proofs.multiplier.Multiplier.new.Goals as goal
 
-pub overflow-cast-scaled-3 : goal.overflow-cast-scaled-3
-overflow-cast-scaled-3 c =
+pub overflow_cast-scaled-3 : goal.overflow_cast-scaled-3
+overflow_cast-scaled-3 c =
     let f = c.args.factor in
     let p = c.args.modulus in
     let below = c.requires.below in

@@ -16,13 +16,13 @@ high m x under =
     let bound = m.high in
     guess_high m.factor x m.modulus 4294967296 m.scaled m.whole (omega arith) (omega arith) (omega arith)
 
-pub overflow-sub-rest : goal.overflow-sub-rest
+pub overflow_sub-rest : goal.overflow_sub-rest
 unfolding guess
-overflow-sub-rest c = low c.args.self.now c.args.x c.requires.below
+overflow_sub-rest c = low c.args.self.now c.args.x c.requires.below
 
-pub overflow-cast-result-else-rest-p : goal.overflow-cast-result-else-rest-p
+pub overflow_cast-result-else-rest-p : goal.overflow_cast-result-else-rest-p
 unfolding guess
-overflow-cast-result-else-rest-p c =
+overflow_cast-result-else-rest-p c =
     let m = c.args.self.now in
     let x = c.args.x in
     let p = m.modulus in
@@ -33,9 +33,9 @@ overflow-cast-result-else-rest-p c =
     let bound : q + 1 ≤ x = le_of_mul-le-mul_right more (omega (arith, m.below)) in
     omega (arith, c.requires.below, m.high)
 
-pub overflow-cast-result-else-rest-p-2 : goal.overflow-cast-result-else-rest-p-2
+pub overflow_cast-result-else-rest-p-2 : goal.overflow_cast-result-else-rest-p-2
 unfolding guess
-overflow-cast-result-else-rest-p-2 c =
+overflow_cast-result-else-rest-p-2 c =
     let m = c.args.self.now in
     omega (arith, high m c.args.x c.requires.below, m.high)
 

@@ -24,11 +24,11 @@ returns g c =
         walk_begun residue p run.generator run.index (omega (arith, run.fit.0.1)) (run.taken / n) (run.taken % n)
             (g.W.Arithmetic.modulus c.args.arithmetic.now) from _ c.requires.same (place_of run from c.requires.place)
             (omega (arith, mod-add-div run.taken n)) (omega (arith, under))
-            refl refl c.bring-in.ensures.value refl c.bring-in-3.ensures.value,
+            refl refl c.bring_in.ensures.value refl c.bring_in-3.ensures.value,
       );
       inside = omega (arith, under, ap (λ (d : DoublingPlace). d.place) (place_of run from c.requires.place));
       taken = refl;
       sum = brought (g.W.Arithmetic.modulus c.args.arithmetic.now) p (doubling_sum p run.generator run.index run.taken) _ c.requires.same
           (doubling_sum_under p run.generator run.index run.taken (omega (arith, run.fit.0.1)))
-          (c.bring-in-2.ensures.value ∙ ap (λ (m : ℕ). m % g.W.Arithmetic.modulus c.args.arithmetic.now) sum);
+          (c.bring_in-2.ensures.value ∙ ap (λ (m : ℕ). m % g.W.Arithmetic.modulus c.args.arithmetic.now) sum);
     }

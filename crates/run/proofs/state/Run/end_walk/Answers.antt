@@ -5,9 +5,9 @@ use Rattle.theory.specs.Kinds.{partial_sum, can_run}
 use Rattle.run.proofs.WalkSteps.{walk_ended}
 use Rattle.run.proofs.state.Run.end_walk.Goals as goal
 
-pub invariant-of-self : goal.invariant-of-self
+pub invariant_of-self : goal.invariant_of-self
 unfolding partial_sum
-invariant-of-self g c =
+invariant_of-self g c =
     let run = c.args.self.now in
     let walk = c.args.walk in
     let residue = g.W.Arithmetic.residue c.args.arithmetic.now in
@@ -19,10 +19,10 @@ invariant-of-self g c =
         (
           c.requires.few,
           (
-            c.take-out-self.ensures.value ∙ c.requires.sum,
+            c.take_out-self.ensures.value ∙ c.requires.sum,
             (
-              walk_ended residue run.modulus run.generator run.index (omega (arith, run.fit.0.1)) c.requires.walking.0 c.args.row_length_of c.take-out.result c.take-out-2.result walk
-                  c.requires.walking.1 c.requires.room c.requires.length c.take-out.ensures.value c.take-out-2.ensures.value,
+              walk_ended residue run.modulus run.generator run.index (omega (arith, run.fit.0.1)) c.requires.walking.0 c.args.row_length_of c.take_out.result c.take_out-2.result walk
+                  c.requires.walking.1 c.requires.room c.requires.length c.take_out.ensures.value c.take_out-2.ensures.value,
               tt,
             ),
           ),

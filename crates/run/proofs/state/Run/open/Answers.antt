@@ -5,9 +5,9 @@ use Rattle.run.specs.Places.{kind_of}
 use Rattle.run.proofs.Opening.{started_kept, sum_start, pair_cause_first}
 use Rattle.run.proofs.state.Run.open.Goals as goal
 
-pub returns-in-err-plain : goal.returns-in-err-plain
-returns-in-err-plain c =
-    let p = err_from_is_err_and c.from-residual.result c.from-residual.ensures.1 in
+pub returns-in_err-plain : goal.returns-in_err-plain
+returns-in_err-plain c =
+    let p = err_from_is_err_and c.from_residual.result c.from_residual.ensures.1 in
     rw (p.1, p.2)
     (record {
       opened = pair_cause_first
@@ -15,13 +15,13 @@ returns-in-err-plain c =
           c.args.index
           c.args.modulus
           c.args.generator
-          c.in-err-plain.field-0.0
-          c.in-err-plain.ensures.causes;
+          c.in_err-plain.field-0.0
+          c.in_err-plain.ensures.causes;
     })
 
-pub invariant-of-result : goal.invariant-of-result
-invariant-of-result c =
-    let paired = c.in-ok-plain.ensures.causes in
+pub invariant_of-result : goal.invariant_of-result
+invariant_of-result c =
+    let paired = c.in_ok-plain.ensures.causes in
     let started : Started c.args.kind c.args.index c.args.modulus (Some c.in-Some.progress) =
     subst (λ (n : ℕ). Started c.args.kind c.args.index n (Some c.in-Some.progress)) paired.2 c.in-Some.ensures.started in
     let kept = started_kept c.args.kind c.args.index c.args.modulus c.args.generator c.in-Some.progress started in (

@@ -16,8 +16,8 @@ returns g c =
         length_is = c.requires.length;
         factor_is = c.new.ensures.factor;
         modulus_is = c.new.ensures.modulus;
-        stride_is = brought_power _ run.modulus run.generator (run.index - 1) _ _ c.requires.same c.bring-in-2.ensures.value c.raise.ensures.value;
-        ratio_is = brought_power _ run.modulus 2 (run.index - 1) _ _ c.requires.same c.bring-in.ensures.value c.raise-ratio.ensures.value;
+        stride_is = brought_power _ run.modulus run.generator (run.index - 1) _ _ c.requires.same c.bring_in-2.ensures.value c.raise.ensures.value;
+        ratio_is = brought_power _ run.modulus 2 (run.index - 1) _ _ c.requires.same c.bring_in.ensures.value c.raise-ratio.ensures.value;
         eighth_is = c.raise-eighth.ensures.value ∙ ap (λ (m : ℕ). residue c.raise-ratio.result ^ 8 % m) c.requires.same;
         sixteenth_is = c.mul.ensures.value ∙ ap (λ (m : ℕ). residue c.raise-eighth.result * residue c.raise-eighth.result % m) c.requires.same;
       };

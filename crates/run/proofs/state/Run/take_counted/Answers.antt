@@ -18,8 +18,8 @@ loop-left-init g c =
     let d = g.S.DigitSource in
     let p = run.modulus in
     let n = row_length_of p in
-    let begun = c.begin-walk-walk.ensures in
-    let walk = c.begin-walk-walk.result in
+    let begun = c.begin_walk-walk.ensures in
+    let walk = c.begin_walk-walk.result in
     let cells = c.clear.new.cells in
     let positive : 0 < p = omega (arith, run.fit.0.1) in
     let here : run.taken % n ≡ walk.place = (row_of n begun.walking.0 walk.place run.taken (sym begun.taken ∙ begun.walking.1.taken_is) begun.inside).1 in
@@ -40,11 +40,11 @@ loop-left-init g c =
       ),
     )
 
-pub overflow-sub-rows : goal.overflow-sub-rows
-overflow-sub-rows g c = omega (arith, c.loop-left.invariant.0.inside, c.rows-rows.ensures.rows.length_is)
+pub overflow_sub-rows : goal.overflow_sub-rows
+overflow_sub-rows g c = omega (arith, c.loop-left.invariant.0.inside, c.rows-rows.ensures.rows.length_is)
 
-pub walk-groups-walk-requires : goal.walk-groups-walk-requires
-walk-groups-walk-requires g c =
+pub walk_groups-walk-requires : goal.walk_groups-walk-requires
+walk_groups-walk-requires g c =
     let run = c.args.self.now in
     let inv = c.loop-left.invariant.0 in
     let tally = c.loop-left.invariant.1.1 in
@@ -61,11 +61,11 @@ walk-groups-walk-requires g c =
           run.fit.0.2 c.requires.share (omega (arith, c.min-stretch.ensures));
     }
 
-pub walk-singly-walk-requires : goal.walk-singly-walk-requires
-walk-singly-walk-requires g c =
+pub walk_singly-walk-requires : goal.walk_singly-walk-requires
+walk_singly-walk-requires g c =
     let run = c.args.self.now in
     let inv = c.loop-left.invariant.0 in
-    let counted = c.walk-groups-walk.ensures in
+    let counted = c.walk_groups-walk.ensures in
     let length = c.rows-rows.ensures.rows.length_is in
     record {
       same = c.requires.same;
@@ -76,7 +76,7 @@ walk-singly-walk-requires g c =
     }
 
 pub turn-walk-requires : goal.turn-walk-requires
-turn-walk-requires g c = record { same = c.requires.same; rows = c.rows-rows.ensures.rows; walking = c.walk-singly-walk.ensures.walking }
+turn-walk-requires g c = record { same = c.requires.same; rows = c.rows-rows.ensures.rows; walking = c.walk_singly-walk.ensures.walking }
 
 pub loop-left-smaller : goal.loop-left-smaller
 loop-left-smaller g c =
@@ -90,16 +90,16 @@ loop-left-preserved g c =
     let n = row_length_of p in
     let inv = c.loop-left.invariant.0 in
     let tally = c.loop-left.invariant.1.1 in
-    let counted = c.walk-groups-walk.ensures in
-    let walked = c.walk-singly-walk.ensures in
+    let counted = c.walk_groups-walk.ensures in
+    let walked = c.walk_singly-walk.ensures in
     let turned = c.turn-walk.ensures in
     let stretch = c.min-stretch.result in
     let length = c.rows-rows.ensures.rows.length_is in
-    let cells = c.walk-groups-walk.new.cells in
+    let cells = c.walk_groups-walk.new.cells in
     let full = weighed p (residue c.rows-rows.result.ratio) 8 cells in
     let parts : 8 * (stretch / 8) + stretch % 8 ≡ stretch = omega arith in
-    let place : c.walk-singly-walk.result.place ≡ c.loop-left.walk.place + stretch = omega (arith, walked.place, counted.place) in
-    let under : c.walk-singly-walk.result.place % n < n = mod-lt c.walk-singly-walk.result.place (rows_have_places p run.fit.0) in
+    let place : c.walk_singly-walk.result.place ≡ c.loop-left.walk.place + stretch = omega (arith, walked.place, counted.place) in
+    let under : c.walk_singly-walk.result.place % n < n = mod-lt c.walk_singly-walk.result.place (rows_have_places p run.fit.0) in
     let least = c.min-stretch.ensures ∙ ap (λ (m : ℕ). min c.loop-left.left (m - c.loop-left.walk.place)) length in (
       record {
         walking = turned.walking;
@@ -116,12 +116,12 @@ loop-left-preserved g c =
       (
         c.loop-left.invariant.1.0 + stretch / 8,
         tally_more p n c.loop-left.walk.place c.loop-left.left c.args.terms _ stretch c.loop-left.cells cells _ _ _ _ _ c.loop-left.invariant.1.0 c.turn-walk.result.place tally
-            inv.inside least (turned.place ∙ ap (λ (m : ℕ). m % n) place) c.walk-groups-walk.auto.cells counted.source counted.count counted.room,
+            inv.inside least (turned.place ∙ ap (λ (m : ℕ). m % n) place) c.walk_groups-walk.auto.cells counted.source counted.count counted.room,
       ),
     )
 
-pub end-walk-requires : goal.end-walk-requires
-end-walk-requires g c =
+pub end_walk-requires : goal.end_walk-requires
+end_walk-requires g c =
     let run = c.args.self.now in
     let p = run.modulus in
     let inv = c.loop-left.invariant.0 in
@@ -162,7 +162,7 @@ returns g c =
     let tally = c.loop-left.invariant.1.1 in
     let n = row_length_of run.modulus in
     let none : c.loop-left.left ≡ 0 = omega (arith, c.loop-left-test.false) in
-    let stands = c.end-walk.ensures.stands in
+    let stands = c.end_walk.ensures.stands in
     record {
       stands = record {
         kind_is = stands.kind_is;

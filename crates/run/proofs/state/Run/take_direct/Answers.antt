@@ -26,7 +26,7 @@ begun run m d s v' same place sum weight =
 
 pub loop-i-init : goal.loop-i-init
 loop-i-init g c =
-    begun c.args.self.now _ c.args.from _ _ c.requires.same c.requires.place c.bring-in-sum.ensures.value c.bring-in-weight.ensures.value
+    begun c.args.self.now _ c.args.from _ _ c.requires.same c.requires.place c.bring_in-sum.ensures.value c.bring_in-weight.ensures.value
 
 pub times-quotient-requires : goal.times-quotient-requires
 times-quotient-requires g c =
@@ -50,20 +50,20 @@ loop-i-preserved g c =
     let quotient = c.times-quotient.ensures.quotient in
     let remainder = c.times-quotient.ensures.remainder in
     let odd : m % 2 ≡ 1 = ap (λ (n : ℕ). n % 2) same ∙ run.fit.0.0 in
-    let half : w.residue a c.mul-half-below.result ≡ half_below m run.generator % m =
-    c.mul-half-below.ensures.value
-    ∙ ap (λ (n : ℕ). n * w.residue a c.bring-in-half.result % m) c.bring-in.ensures.value
-    ∙ ap (λ (n : ℕ). (run.generator - 1) % m * n % m) (c.bring-in-half.ensures.value ∙ ap (λ (n : ℕ). (n / 2 + 1) % m) (sym same))
+    let half : w.residue a c.mul-half_below.result ≡ half_below m run.generator % m =
+    c.mul-half_below.ensures.value
+    ∙ ap (λ (n : ℕ). n * w.residue a c.bring_in-half.result % m) c.bring_in.ensures.value
+    ∙ ap (λ (n : ℕ). (run.generator - 1) % m * n % m) (c.bring_in-half.ensures.value ∙ ap (λ (n : ℕ). (n / 2 + 1) % m) (sym same))
     ∙ half_below_residue m run.generator odd in
     let stride : w.residue a c.raise-stride.result ≡ run.generator ^ (run.index - 1) % m =
-    c.raise-stride.ensures.value ∙ ap (λ (n : ℕ). n ^ (run.index - 1) % m) c.bring-in-2.ensures.value ∙ pow-mod run.generator (run.index - 1) m in
+    c.raise-stride.ensures.value ∙ ap (λ (n : ℕ). n ^ (run.index - 1) % m) c.bring_in-2.ensures.value ∙ pow-mod run.generator (run.index - 1) m in
     let further = term_worked m run.generator run.index (run.taken + c.loop-i.-i)
     (w.residue a c.loop-i.sum) c.loop-i.point (w.residue a c.loop-i.weight)
-    (w.residue a c.mul-half-below.result) (w.residue a c.raise-stride.result)
+    (w.residue a c.mul-half_below.result) (w.residue a c.raise-stride.result)
     c.times-quotient.result.0 c.times-quotient.result.1 (w.residue a c.mul-weight.result)
-    (w.residue a c.bring-in-in-loop-i.result) (w.residue a c.sub-factor.result) (w.residue a c.mul.result) (w.residue a c.add-sum.result)
+    (w.residue a c.bring_in-in-loop-i.result) (w.residue a c.sub-factor.result) (w.residue a c.mul.result) (w.residue a c.add-sum.result)
     c.loop-i.invariant half stride (cc) (cc)
-    c.mul-weight.ensures.value c.bring-in-in-loop-i.ensures.value c.sub-factor.ensures.value c.mul.ensures.value c.add-sum.ensures.value in
+    c.mul-weight.ensures.value c.bring_in-in-loop-i.ensures.value c.sub-factor.ensures.value c.mul.ensures.value c.add-sum.ensures.value in
     rw (← add_assoc) further
 
 -- where the arithmetic's modulus is the run's
@@ -72,15 +72,15 @@ ended : (p m g k t n s x v s' v' : ℕ) → m ≡ p → n ≡ t → s' ≡ s →
 ended p m g k t n s x v s' v' same terms sum weight at =
     rw (sum, weight, ← same, ← terms) (sum_from_standing m g k n s x v at, progress_from_standing m g k n s x v at)
 
-pub invariant-of-self : goal.invariant-of-self
+pub invariant_of-self : goal.invariant_of-self
 unfolding can_run
-invariant-of-self g c =
+invariant_of-self g c =
     let w = g.W.Arithmetic in
     let a = c.args.arithmetic.now in
     let run = c.args.self.now in
     let all : run.taken + c.loop-i.-i ≡ run.taken + c.args.terms = omega (arith, c.loop-i-test.false, c.loop-i.auto.-i-end) in
     let kept = ended run.modulus (w.modulus a) run.generator run.index (run.taken + c.args.terms) (run.taken + c.loop-i.-i)
-    (w.residue a c.loop-i.sum) c.loop-i.point (w.residue a c.loop-i.weight) c.take-out-self.result c.take-out.result
-    c.requires.same all c.take-out-self.ensures.value c.take-out.ensures.value c.loop-i.invariant in
+    (w.residue a c.loop-i.sum) c.loop-i.point (w.residue a c.loop-i.weight) c.take_out-self.result c.take_out.result
+    c.requires.same all c.take_out-self.ensures.value c.take_out.ensures.value c.loop-i.invariant in
     let within : run.taken + c.args.terms ≤ (run.modulus - 1) / 2 = omega (arith, c.requires.room, run.within) in
     (run.fit, (refl, (within, (kept.0, (kept.1, tt)))))

@@ -11,21 +11,21 @@ rows-rows-requires g c = record { same = c.requires.same; length = length_of c.a
 pub loop-left-init : goal.loop-left-init
 loop-left-init g c =
     let run = c.args.self.now in
-    let begun = c.begin-walk-walk.ensures in
+    let begun = c.begin_walk-walk.ensures in
     let positive : 0 < run.modulus = omega (arith, run.fit.0.1) in
     record {
       walking = begun.walking;
       inside = begun.inside;
       whole = omega (arith, begun.taken);
-      summed = alone_summed run.modulus run.generator run.index c.begin-walk-walk.result.taken _ positive
+      summed = alone_summed run.modulus run.generator run.index c.begin_walk-walk.result.taken _ positive
           (begun.sum ∙ ap (doubling_sum run.modulus run.generator run.index) (sym begun.taken));
     }
 
-pub overflow-sub-rows : goal.overflow-sub-rows
-overflow-sub-rows g c = omega (arith, c.loop-left.invariant.inside, c.rows-rows.ensures.rows.length_is)
+pub overflow_sub-rows : goal.overflow_sub-rows
+overflow_sub-rows g c = omega (arith, c.loop-left.invariant.inside, c.rows-rows.ensures.rows.length_is)
 
-pub walk-singly-walk-requires : goal.walk-singly-walk-requires
-walk-singly-walk-requires g c =
+pub walk_singly-walk-requires : goal.walk_singly-walk-requires
+walk_singly-walk-requires g c =
     let run = c.args.self.now in
     let inv = c.loop-left.invariant in
     let length = c.rows-rows.ensures.rows.length_is in
@@ -47,11 +47,11 @@ loop-left-preserved g c =
     let residue = g.W.Arithmetic.residue c.args.arithmetic.now in
     let p = run.modulus in
     let inv = c.loop-left.invariant in
-    let walked = c.walk-singly-walk.ensures in
+    let walked = c.walk_singly-walk.ensures in
     let turned = c.turn-walk.ensures in
     let stretch = c.min-stretch.result in
     let some : 0 < row_length_of p = rows_have_places p run.fit.0 in
-    let under : c.walk-singly-walk.result.place % row_length_of p < row_length_of p = mod-lt c.walk-singly-walk.result.place some in
+    let under : c.walk_singly-walk.result.place % row_length_of p < row_length_of p = mod-lt c.walk_singly-walk.result.place some in
     record {
       walking = turned.walking;
       inside = omega (arith, under, turned.place);
@@ -62,8 +62,8 @@ loop-left-preserved g c =
           ∙ ap (doubling_sum p run.generator run.index) (sym (turned.taken ∙ walked.taken));
     }
 
-pub end-walk-requires : goal.end-walk-requires
-end-walk-requires g c =
+pub end_walk-requires : goal.end_walk-requires
+end_walk-requires g c =
     let run = c.args.self.now in
     let inv = c.loop-left.invariant in
     let a = c.args.arithmetic.now in
@@ -80,7 +80,7 @@ end-walk-requires g c =
 
 pub returns : goal.returns
 returns g c =
-    let stands = c.end-walk.ensures.stands in
+    let stands = c.end_walk.ensures.stands in
     record {
       stands = record {
         kind_is = stands.kind_is;

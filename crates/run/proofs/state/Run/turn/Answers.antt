@@ -10,8 +10,8 @@ returns-then-walk-rows g c =
     let within : c.args.walk.place < row_length_of c.args.self.now.modulus = omega (arith, c.if-walk-rows.true, c.requires.rows.length_is) in
     record { walking = c.requires.walking; taken = refl; sum = refl; place = sym (mod-eq_of_lt within) }
 
-pub times-row-point-requires : goal.times-row-point-requires
-times-row-point-requires g c =
+pub times-row_point-requires : goal.times-row_point-requires
+times-row_point-requires g c =
     let run = c.args.self.now in
     let i = c.requires.walking.0 in
     let under : doubling_point run.modulus run.generator i 0 < run.modulus =
@@ -33,8 +33,8 @@ returns g c =
       walking = (
         i + 1,
         walk_turned residue p run.generator run.index positive i (residue c.args.rows.now.stride) walk _ at rows.stride_is end refl refl
-            (c.times-row-point.ensures.remainder ∙ ap₂ (λ (a b : ℕ). a * walk.row_point % b) rows.factor_is rows.modulus_is)
-            (c.mul-row-weight.ensures.value ∙ ap (λ (m : ℕ). residue walk.row_weight * residue c.args.rows.now.stride % m) c.requires.same)
+            (c.times-row_point.ensures.remainder ∙ ap₂ (λ (a b : ℕ). a * walk.row_point % b) rows.factor_is rows.modulus_is)
+            (c.mul-row_weight.ensures.value ∙ ap (λ (m : ℕ). residue walk.row_weight * residue c.args.rows.now.stride % m) c.requires.same)
             refl refl,
       );
       taken = refl;

@@ -8,8 +8,8 @@ use Rattle.run.proofs.RowTerms.{stretch_counts}
 use Rattle.run.proofs.WalkSteps.{walk_on}
 use Rattle.run.proofs.state.Run.walk_groups.Goals as goal
 
-pub take-groups-requires : goal.take-groups-requires
-take-groups-requires g c =
+pub take_groups-requires : goal.take_groups-requires
+take_groups-requires g c =
     let run = c.args.self.now in
     let walk = c.args.walk in
     let same = c.requires.same in
@@ -41,9 +41,9 @@ returns g c =
     let at = c.requires.walking.1 in
     let positive : 0 < p = omega (arith, run.fit.0.1) in
     let before = c.args.cells.now in
-    let after = c.take-groups.new.cells in
-    let taken = c.take-groups.ensures in
-    let counted = subst (λ (m : ℕ). Counted m r 8 c.args.groups x v c.take-groups.result.point (residue c.take-groups.result.weight) before after) c.requires.same taken.counted in
+    let after = c.take_groups.new.cells in
+    let taken = c.take_groups.ensures in
+    let counted = subst (λ (m : ℕ). Counted m r 8 c.args.groups x v c.take_groups.result.point (residue c.take_groups.result.weight) before after) c.requires.same taken.counted in
     record {
       walking = (
         i,

@@ -6,8 +6,8 @@ use Rattle.run.proofs.RowTerms.{stretch_grows}
 use Rattle.run.proofs.WalkSteps.{walk_on}
 use Rattle.run.proofs.state.Run.walk_singly.Goals as goal
 
-pub take-stretch-requires : goal.take-stretch-requires
-take-stretch-requires g c =
+pub take_stretch-requires : goal.take_stretch-requires
+take_stretch-requires g c =
     let run = c.args.self.now in
     let walk = c.args.walk in
     let i = c.requires.walking.0 in
@@ -27,7 +27,7 @@ returns g c =
     let i = c.requires.walking.0 in
     let at = c.requires.walking.1 in
     let positive : 0 < p = omega (arith, run.fit.0.1) in
-    let stretched = c.take-stretch.ensures in
+    let stretched = c.take_stretch.ensures in
     record {
       walking = (
         i,

@@ -5,22 +5,22 @@ use Rattle.session.proofs.BookSteps.{goes_filled, goes_unfilled, goes_spent}
 use Rattle.session.proofs.Taking.{found_within}
 use Rattle.session.proofs.state.State.fill.Goals as goal
 
-pub returns-in-default : goal.returns-in-default
-returns-in-default c =
+pub returns-in_default : goal.returns-in_default
+returns-in_default c =
     let s = c.args.self.now in
-    let taken = c.in-default.ensures.taken in
+    let taken = c.in_default.ensures.taken in
     record {
       turn = record {
-        goes = goes_spent (book s.book) (vec_items s.runs) c.args.number (vec_items c.take-finished.new.runs) taken.0 taken.1;
-        capacity = c.take-finished.ensures.capacity;
-        few = omega (arith, c.take-finished.ensures.len);
+        goes = goes_spent (book s.book) (vec_items s.runs) c.args.number (vec_items c.take_finished.new.runs) taken.0 taken.1;
+        capacity = c.take_finished.ensures.capacity;
+        few = omega (arith, c.take_finished.ensures.len);
       };
     }
 
 pub put-requires : goal.put-requires
 put-requires c =
     let s = c.args.self.now in
-    omega (arith, found_within (vec_items s.runs) c.args.number (Finished c.in-Some.finished) c.in-Some.ensures.taken.0, c.take-finished.ensures.len, s.runs.ok.0)
+    omega (arith, found_within (vec_items s.runs) c.args.number (Finished c.in-Some.finished) c.in-Some.ensures.taken.0, c.take_finished.ensures.len, s.runs.ok.0)
 
 pub returns-in-Ok : goal.returns-in-Ok
 returns-in-Ok c =
@@ -29,9 +29,9 @@ returns-in-Ok c =
     record {
       turn = record {
         goes = goes_filled (book s.book) (vec_items s.runs) c.args.number c.in-Some.finished taken.0 (book c.fill.new.self) c.in-Ok.field-0
-            (vec_items c.take-finished.new.runs) c.outcome-filled.result taken.1 c.outcome-filled.ensures.value c.in-Ok.ensures.filled;
-        capacity = c.take-finished.ensures.capacity;
-        few = omega (arith, c.take-finished.ensures.len);
+            (vec_items c.take_finished.new.runs) c.outcome-filled.result taken.1 c.outcome-filled.ensures.value c.in-Ok.ensures.filled;
+        capacity = c.take_finished.ensures.capacity;
+        few = omega (arith, c.take_finished.ensures.len);
       };
     }
 
@@ -42,8 +42,8 @@ returns-in-Err c =
     record {
       turn = record {
         goes = goes_unfilled (book s.book) (vec_items s.runs) c.args.number c.in-Some.finished taken.0 (Unit {0}) (book c.fill.new.self) c.in-Err.back
-            (vec_items c.take-finished.new.runs) (vec_items c.put.new.runs) taken.1 c.put.ensures.items c.in-Err.ensures.filled;
-        capacity = c.put.ensures.capacity ∙ c.take-finished.ensures.capacity;
-        few = omega (arith, c.put.ensures.len, c.take-finished.ensures.len);
+            (vec_items c.take_finished.new.runs) (vec_items c.put.new.runs) taken.1 c.put.ensures.items c.in-Err.ensures.filled;
+        capacity = c.put.ensures.capacity ∙ c.take_finished.ensures.capacity;
+        few = omega (arith, c.put.ensures.len, c.take_finished.ensures.len);
       };
     }

@@ -8,10 +8,10 @@ returns-in-Ok c =
     let s = c.args.self.now in
     record {
       turn = record {
-        goes = goes_opened (book s.book) (vec_items s.runs) c.args.kind c.args.modulus c.in-Ok.run' (vec_items c.push-reserved.new.self) c.len-number.result
-            c.push-reserved.ensures.items (c.len-number.ensures ∙ s.runs.ok.0) c.in-Ok.ensures.opened;
-        capacity = c.push-reserved.ensures.capacity;
-        few = omega (arith, c.push-reserved.ensures.len);
+        goes = goes_opened (book s.book) (vec_items s.runs) c.args.kind c.args.modulus c.in-Ok.run' (vec_items c.push_reserved.new.self) c.len-number.result
+            c.push_reserved.ensures.items (c.len-number.ensures ∙ s.runs.ok.0) c.in-Ok.ensures.opened;
+        capacity = c.push_reserved.ensures.capacity;
+        few = omega (arith, c.push_reserved.ensures.len);
       };
     }
 

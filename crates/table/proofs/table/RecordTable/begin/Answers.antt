@@ -6,11 +6,11 @@ use Rattle.arithmetic.proofs.Causes.{all_fail}
 use Rattle.table.proofs.Records.{chained_none, every_none}
 use Rattle.table.proofs.table.RecordTable.begin.Goals as goal
 
-pub invariant-of-self : goal.invariant-of-self
-invariant-of-self c =
+pub invariant_of-self : goal.invariant_of-self
+invariant_of-self c =
     let k = c.args.index in
     let none = c.clear.ensures.items in
-    let stands = not-false (index_stands k) (all_fail (index_causes k) (sym c.in-ok-try-index.ensures.answer)).0 in (
+    let stands = not-false (index_stands k) (all_fail (index_causes k) (sym c.in_ok-try_index.ensures.answer)).0 in (
       omega (arith, c.clear.ensures.capacity, c.args.self.now.room),
       (omega (arith, c.clear.ensures.len), (stands, (chained_none _ none, (every_none (record_fits k) _ none, tt)))),
     )

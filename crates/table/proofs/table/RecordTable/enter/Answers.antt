@@ -35,40 +35,40 @@ pushed : (first : ℕ) (rs slice mid rs' : List Record) (p g at next : ℕ) → 
 pushed first rs slice mid rs' p g at next same is h =
     h ∙ ap (λ (n : ℕ). mid ++ waiting_record n p g ∷ []) (is ∙ ap (λ (xs : List Record). next_in (rows first xs) at) same)
 
-pub next-after-next-requires : goal.next-after-next-requires
-next-after-next-requires c =
+pub next_after-next-requires : goal.next_after-next-requires
+next_after-next-requires c =
     let t = c.args.self.now in
     let rs = vec_items t.records in
     let p = c.args.modulus in
-    let passed = admitted (contents t) p c.args.generator (sym c.in-ok-admit.ensures.answer) in
-    let here = found t.first rs c.as-slice.result.now p c.place-of-at.result c.as-slice.ensures.value c.place-of-at.ensures.value in
-    omega (arith, place_within t.first rs p c.place-of-at.result t.rising (positive p passed.0) here, ap length c.as-slice-2.ensures.value)
+    let passed = admitted (contents t) p c.args.generator (sym c.in_ok-admit.ensures.answer) in
+    let here = found t.first rs c.as_slice.result.now p c.place_of-at.result c.as_slice.ensures.value c.place_of-at.ensures.value in
+    omega (arith, place_within t.first rs p c.place_of-at.result t.rising (positive p passed.0) here, ap length c.as_slice-2.ensures.value)
 
 pub relink-requires : goal.relink-requires
 relink-requires c =
     let t = c.args.self.now in
     let rs = vec_items t.records in
     let p = c.args.modulus in
-    let passed = admitted (contents t) p c.args.generator (sym c.in-ok-admit.ensures.answer) in
-    let here = found t.first rs c.as-slice.result.now p c.place-of-at.result c.as-slice.ensures.value c.place-of-at.ensures.value in
-    omega (arith, place_within t.first rs p c.place-of-at.result t.rising (positive p passed.0) here, t.records.ok.0)
+    let passed = admitted (contents t) p c.args.generator (sym c.in_ok-admit.ensures.answer) in
+    let here = found t.first rs c.as_slice.result.now p c.place_of-at.result c.as_slice.ensures.value c.place_of-at.ensures.value in
+    omega (arith, place_within t.first rs p c.place_of-at.result t.rising (positive p passed.0) here, t.records.ok.0)
 
-pub invariant-of-self : goal.invariant-of-self
-invariant-of-self c =
+pub invariant_of-self : goal.invariant_of-self
+invariant_of-self c =
     let t = c.args.self.now in
     let rs = vec_items t.records in
     let p = c.args.modulus in
     let g = c.args.generator in
-    let passed = admitted (contents t) p g (sym c.in-ok-admit.ensures.answer) in
-    let at = c.place-of-at.result in
-    let here = found t.first rs c.as-slice.result.now p at c.as-slice.ensures.value c.place-of-at.ensures.value in
+    let passed = admitted (contents t) p g (sym c.in_ok-admit.ensures.answer) in
+    let at = c.place_of-at.result in
+    let here = found t.first rs c.as_slice.result.now p at c.as_slice.ensures.value c.place_of-at.ensures.value in
     let mid = vec_items c.relink.new.records in
-    let rs' = vec_items c.push-reserved.new.self in
+    let rs' = vec_items c.push_reserved.new.self in
     let last : c.len.result + 1 ≡ suc (length rs) = omega (arith, c.len.ensures, t.records.ok.0) in
-    let put = pushed t.first rs c.as-slice-2.result.now mid rs' p g at c.next-after-next.result c.as-slice-2.ensures.value c.next-after-next.ensures.value c.push-reserved.ensures.items in (
-      omega (arith, c.push-reserved.ensures.capacity, c.relink.ensures.capacity, t.room),
+    let put = pushed t.first rs c.as_slice-2.result.now mid rs' p g at c.next_after-next.result c.as_slice-2.ensures.value c.next_after-next.ensures.value c.push_reserved.ensures.items in (
+      omega (arith, c.push_reserved.ensures.capacity, c.relink.ensures.capacity, t.room),
       (
-        omega (arith, c.push-reserved.ensures.len, c.relink.ensures.len, passed.3, t.records.ok.0),
+        omega (arith, c.push_reserved.ensures.len, c.relink.ensures.len, passed.3, t.records.ok.0),
         (
           t.stands,
           (
@@ -89,15 +89,15 @@ returns c =
     let rs = vec_items t.records in
     let p = c.args.modulus in
     let g = c.args.generator in
-    let passed = admitted (contents t) p g (sym c.in-ok-admit.ensures.answer) in
-    let at = c.place-of-at.result in
-    let here = found t.first rs c.as-slice.result.now p at c.as-slice.ensures.value c.place-of-at.ensures.value in
+    let passed = admitted (contents t) p g (sym c.in_ok-admit.ensures.answer) in
+    let at = c.place_of-at.result in
+    let here = found t.first rs c.as_slice.result.now p at c.as_slice.ensures.value c.place_of-at.ensures.value in
     let mid = vec_items c.relink.new.records in
-    let rs' = vec_items c.push-reserved.new.self in
+    let rs' = vec_items c.push_reserved.new.self in
     let last : c.len.result + 1 ≡ suc (length rs) = omega (arith, c.len.ensures, t.records.ok.0) in
-    let put = pushed t.first rs c.as-slice-2.result.now mid rs' p g at c.next-after-next.result c.as-slice-2.ensures.value c.next-after-next.ensures.value c.push-reserved.ensures.items in
+    let put = pushed t.first rs c.as_slice-2.result.now mid rs' p g at c.next_after-next.result c.as_slice-2.ensures.value c.next_after-next.ensures.value c.push_reserved.ensures.items in
     record {
-      answer = c.in-ok-admit.ensures.answer;
+      answer = c.in_ok-admit.ensures.answer;
       after = (
         refl,
         linked_records t.first c.relink.new.first rs mid rs' p g at (c.len.result + 1) t.rising passed.4 (positive p passed.0) here last c.relink.ensures.linked put,

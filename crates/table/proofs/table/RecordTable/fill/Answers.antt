@@ -13,24 +13,24 @@ use Rattle.table.proofs.table.RecordTable.fill.Goals as goal
 lent : (rs : List Record) (n : ℕ) (r y : Record) → numbered rs n ≡ Some r → y ≡ get_or rs (n - 1) y → y ≡ get_or rs (n - 1) (head 0)
 lent rs n r y found is = is ∙ (numbered_some rs n r y found).2 ∙ sym (numbered_some rs n r (head 0) found).2
 
-pub index-mut-requires : goal.index-mut-requires
-index-mut-requires c =
+pub index_mut-requires : goal.index_mut-requires
+index_mut-requires c =
     let rs = vec_items c.args.self.now.records in
     let at = numbered_some rs c.args.number c.in-Some.record (head 0) (sym c.in-Some.ensures.value) in
     omega (arith, at.0, at.1, c.args.self.now.records.ok.0)
 
-pub invariant-of-self : goal.invariant-of-self
-invariant-of-self c =
+pub invariant_of-self : goal.invariant_of-self
+invariant_of-self c =
     let t = c.args.self.now in
     let rs = vec_items t.records in
     let n = c.args.number in
     let v = c.args.residue in
     let r = c.in-Some.record in
-    let y = c.index-mut.result.now in
+    let y = c.index_mut.result.now in
     let found : numbered rs n ≡ Some r = sym c.in-Some.ensures.value in
     let at = numbered_some rs n r (head 0) found in
     let within : n - 1 < length rs = omega (arith, at.0, at.1) in
-    let is = lent rs n r y found c.index-mut.ensures.value in
+    let is = lent rs n r y found c.index_mut.ensures.value in
     let fit : record_fits t.index y ≡ true =
     ap (record_fits t.index) is ∙ every_at (record_fits t.index) rs (n - 1) (head 0) t.fits within
     in
@@ -59,8 +59,8 @@ returns c =
     record {
       answer =
           sym (ap (λ (o : Option Record). fillable o v) found
-          ∙ and_from _ _ (not_from_false _ (sym c.if-is-some.ensures)) (lt-ltb v r.modulus c.if-residue-record.false));
+          ∙ and_from _ _ (not_from_false _ (sym c.if-is_some.ensures)) (lt-ltb v r.modulus c.if-residue-record.false));
       after =
           ap (λ (x : Record). holding t.first t.index (set rs (n - 1) (with_residue x v)))
-          (lent rs n r c.index-mut.result.now found c.index-mut.ensures.value);
+          (lent rs n r c.index_mut.result.now found c.index_mut.ensures.value);
     }

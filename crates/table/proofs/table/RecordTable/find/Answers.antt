@@ -8,5 +8,5 @@ pub returns : goal.returns
 returns c =
     let t = c.args.self.now in
     let p = c.args.modulus in
-    let is = c.number-of.ensures.value ∙ ap (λ (xs : List Record). number_of xs p) c.as-slice.ensures.value in
-    record { value = is; only = only_one t.first (vec_items t.records) p c.number-of.result t.rising is }
+    let is = c.number_of.ensures.value ∙ ap (λ (xs : List Record). number_of xs p) c.as_slice.ensures.value in
+    record { value = is; only = only_one t.first (vec_items t.records) p c.number_of.result t.rising is }

@@ -3,8 +3,8 @@ use Rattle.table.specs.Fitness.{record_fits}
 use Rattle.table.proofs.Records.{chained_none, every_none}
 use Rattle.table.proofs.table.RecordTable.reset.Goals as goal
 
-pub invariant-of-self : goal.invariant-of-self
-invariant-of-self c =
+pub invariant_of-self : goal.invariant_of-self
+invariant_of-self c =
     let none = c.clear.ensures.items in (
       omega (arith, c.clear.ensures.capacity, c.args.self.now.room),
       (omega (arith, c.clear.ensures.len), (refl, (chained_none _ none, (every_none (record_fits 2) _ none, tt)))),

@@ -5,16 +5,16 @@ use Rattle.table.specs.Fitness.{record_fits}
 use Rattle.table.proofs.Judged.{restored}
 use Rattle.table.proofs.table.RecordTable.restore.Goals as goal
 
-pub invariant-of-self : goal.invariant-of-self
-invariant-of-self c =
+pub invariant_of-self : goal.invariant_of-self
+invariant_of-self c =
     let rs = c.args.records.now in
-    let ok = restored c.args.first c.args.index rs (sym c.in-ok-judge.ensures.answer) in
+    let ok = restored c.args.first c.args.index rs (sym c.in_ok-judge.ensures.answer) in
     let u = c.reset.new.self in
     let none : vec_items u.records ≡ [] = ap (λ (t : Contents). t.records) c.reset.ensures.after in
-    let same : rs ≡ vec_items c.copy-all.new.into = sym (c.copy-all.ensures.items ∙ ap (λ (xs : List Record). xs ++ rs) none) in (
-      omega (arith, c.copy-all.ensures.capacity, u.room),
+    let same : rs ≡ vec_items c.copy_all.new.into = sym (c.copy_all.ensures.items ∙ ap (λ (xs : List Record). xs ++ rs) none) in (
+      omega (arith, c.copy_all.ensures.capacity, u.room),
       (
-        omega (arith, c.copy-all.ensures.len, ap length none, u.records.ok.0, ok.0),
+        omega (arith, c.copy_all.ensures.len, ap length none, u.records.ok.0, ok.0),
         (
           ok.1,
           (

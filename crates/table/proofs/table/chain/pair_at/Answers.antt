@@ -39,17 +39,17 @@ pub returns-then-position-records : goal.returns-then-position-records
 returns-then-position-records c =
     record { value = sym (past c.args.first c.args.records.now c.args.position c.if-position-records.true) }
 
-pub overflow-sub-record : goal.overflow-sub-record
-overflow-sub-record c =
-    (within c.args.first c.args.records.now c.args.position c.number-at-number.result c.requires c.if-position-records.false c.number-at-number.ensures.value).0
+pub overflow_sub-record : goal.overflow_sub-record
+overflow_sub-record c =
+    (within c.args.first c.args.records.now c.args.position c.number_at-number.result c.requires c.if-position-records.false c.number_at-number.ensures.value).0
 
 pub bounds-records-number : goal.bounds-records-number
 bounds-records-number c =
-    let w = within c.args.first c.args.records.now c.args.position c.number-at-number.result c.requires c.if-position-records.false c.number-at-number.ensures.value in
+    let w = within c.args.first c.args.records.now c.args.position c.number_at-number.result c.requires c.if-position-records.false c.number_at-number.ensures.value in
     omega arith
 
 pub returns : goal.returns
 returns c =
     record {
-      value = sym (at_place c.args.first c.args.records.now c.args.position c.number-at-number.result c.requires c.if-position-records.false c.number-at-number.ensures.value);
+      value = sym (at_place c.args.first c.args.records.now c.args.position c.number_at-number.result c.requires c.if-position-records.false c.number_at-number.ensures.value);
     }

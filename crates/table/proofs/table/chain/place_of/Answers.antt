@@ -42,24 +42,24 @@ module _ (first : ℕ) (records : List Record) (p step at next : ℕ) (is : next
       let m = modulus_in (rows first records) in
       reached_here (next_in (rows first records)) m (length records) p (length records - (step + 1)) at (omega (arith, reads, ap m is)) less
 
-pub overflow-sub-next : goal.overflow-sub-next
-overflow-sub-next c =
-    (within c.args.first c.args.records.now c.args.modulus c.loop-step.-step c.loop-step.at c.next-after-next.result c.next-after-next.ensures.value c.loop-step-test.true c.loop-step.invariant).0
+pub overflow_sub-next : goal.overflow_sub-next
+overflow_sub-next c =
+    (within c.args.first c.args.records.now c.args.modulus c.loop-step.-step c.loop-step.at c.next_after-next.result c.next_after-next.ensures.value c.loop-step-test.true c.loop-step.invariant).0
 
 pub bounds-records-next : goal.bounds-records-next
 bounds-records-next c =
-    let w = within c.args.first c.args.records.now c.args.modulus c.loop-step.-step c.loop-step.at c.next-after-next.result c.next-after-next.ensures.value c.loop-step-test.true c.loop-step.invariant in
+    let w = within c.args.first c.args.records.now c.args.modulus c.loop-step.-step c.loop-step.at c.next_after-next.result c.next_after-next.ensures.value c.loop-step-test.true c.loop-step.invariant in
     omega arith
 
 pub returns-then-records-next : goal.returns-then-records-next
 returns-then-records-next c =
     record {
-      value = here c.args.first c.args.records.now c.args.modulus c.loop-step.-step c.loop-step.at c.next-after-next.result c.next-after-next.ensures.value c.loop-step-test.true c.loop-step.invariant c.if-records-next.true;
+      value = here c.args.first c.args.records.now c.args.modulus c.loop-step.-step c.loop-step.at c.next_after-next.result c.next_after-next.ensures.value c.loop-step-test.true c.loop-step.invariant c.if-records-next.true;
     }
 
 pub loop-step-preserved : goal.loop-step-preserved
 loop-step-preserved c =
-    on c.args.first c.args.records.now c.args.modulus c.loop-step.-step c.loop-step.at c.next-after-next.result c.next-after-next.ensures.value c.loop-step-test.true c.loop-step.invariant c.if-records-next.false
+    on c.args.first c.args.records.now c.args.modulus c.loop-step.-step c.loop-step.at c.next_after-next.result c.next_after-next.ensures.value c.loop-step-test.true c.loop-step.invariant c.if-records-next.false
 
 pub returns : goal.returns
 returns c =

@@ -10,12 +10,12 @@ loop-record-preserved c =
     let rs = c.args.records.now in
     let i = c.loop-record.record-index in
     let x = get_or rs i (head 0) in (
-      c.push-reserved.ensures.items
+      c.push_reserved.ensures.items
           ∙ ap (λ (xs : List Record). xs ++ x ∷ []) c.loop-record.invariant.0
           ∙ append_assoc was (take i rs) (x ∷ [])
           ∙ ap (λ (xs : List Record). was ++ xs) (sym (take_more rs i (head 0) c.loop-record-test.true)),
-      omega (arith, c.push-reserved.ensures.len, c.loop-record.invariant.1),
-      c.push-reserved.ensures.capacity ∙ c.loop-record.invariant.2,
+      omega (arith, c.push_reserved.ensures.len, c.loop-record.invariant.1),
+      c.push_reserved.ensures.capacity ∙ c.loop-record.invariant.2,
     )
 
 pub returns : goal.returns

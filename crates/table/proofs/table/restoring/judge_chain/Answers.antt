@@ -53,32 +53,32 @@ module _ (first k : ℕ) (rs : List Record) (step at next before : ℕ) (h : ste
 pub returns-then-next-eq0 : goal.returns-then-next-eq0
 returns-then-next-eq0 c =
     record {
-      answer = early c.args.first c.args.index c.args.records.now c.loop-step.-step c.loop-step.at c.next-after-next.result c.loop-step.before c.loop-step-test.true c.next-after-next.ensures.value c.loop-step.invariant.1 c.loop-step.invariant.2 c.broken.result c.broken.ensures.value c.if-next-eq0.true;
+      answer = early c.args.first c.args.index c.args.records.now c.loop-step.-step c.loop-step.at c.next_after-next.result c.loop-step.before c.loop-step-test.true c.next_after-next.ensures.value c.loop-step.invariant.1 c.loop-step.invariant.2 c.broken.result c.broken.ensures.value c.if-next-eq0.true;
     }
 
 pub returns-then-next-records : goal.returns-then-next-records
 returns-then-next-records c =
     record {
-      answer = far c.args.first c.args.index c.args.records.now c.loop-step.-step c.loop-step.at c.next-after-next.result c.loop-step.before c.loop-step-test.true c.next-after-next.ensures.value c.loop-step.invariant.1 c.loop-step.invariant.2 c.broken-then-next-records.result c.broken-then-next-records.ensures.value c.if-next-eq0.false c.if-next-records.true;
+      answer = far c.args.first c.args.index c.args.records.now c.loop-step.-step c.loop-step.at c.next_after-next.result c.loop-step.before c.loop-step-test.true c.next_after-next.ensures.value c.loop-step.invariant.1 c.loop-step.invariant.2 c.broken-then-next-records.result c.broken-then-next-records.ensures.value c.if-next-eq0.false c.if-next-records.true;
     }
 
-pub returns-in-err-judge-record : goal.returns-in-err-judge-record
-returns-in-err-judge-record c =
-    let p = err_from_is_err_and c.from-residual.result c.from-residual.ensures.1 in
+pub returns-in_err-judge_record : goal.returns-in_err-judge_record
+returns-in_err-judge_record c =
+    let p = err_from_is_err_and c.from_residual.result c.from_residual.ensures.1 in
     record {
       answer =
           ap result_err p.1
           ∙ ap (λ (f : Fault). Some f) p.2
-          ∙ bad c.args.first c.args.index c.args.records.now c.loop-step.-step c.loop-step.at c.next-after-next.result c.loop-step.before c.loop-step-test.true c.next-after-next.ensures.value c.loop-step.invariant.1 c.loop-step.invariant.2 c.in-err-judge-record.field-0.0 c.if-next-eq0.false c.if-next-records.false c.in-err-judge-record.ensures.answer;
+          ∙ bad c.args.first c.args.index c.args.records.now c.loop-step.-step c.loop-step.at c.next_after-next.result c.loop-step.before c.loop-step-test.true c.next_after-next.ensures.value c.loop-step.invariant.1 c.loop-step.invariant.2 c.in_err-judge_record.field-0.0 c.if-next-eq0.false c.if-next-records.false c.in_err-judge_record.ensures.answer;
     }
 
 pub loop-step-preserved : goal.loop-step-preserved
 loop-step-preserved c =
     let ne = c.if-next-eq0.false in
-    let low : 1 ≤ c.next-after-next.result = omega arith in (
+    let low : 1 ≤ c.next_after-next.result = omega arith in (
       c.if-next-records.false,
-      ap (λ (r : Record). r.modulus) (sym (row_at c.args.first c.args.records.now c.next-after-next.result low)),
-      on c.args.first c.args.index c.args.records.now c.loop-step.-step c.loop-step.at c.next-after-next.result c.loop-step.before c.loop-step-test.true c.next-after-next.ensures.value c.loop-step.invariant.1 c.loop-step.invariant.2 ne c.if-next-records.false c.in-ok-judge-record.ensures.answer,
+      ap (λ (r : Record). r.modulus) (sym (row_at c.args.first c.args.records.now c.next_after-next.result low)),
+      on c.args.first c.args.index c.args.records.now c.loop-step.-step c.loop-step.at c.next_after-next.result c.loop-step.before c.loop-step-test.true c.next_after-next.ensures.value c.loop-step.invariant.1 c.loop-step.invariant.2 ne c.if-next-records.false c.in_ok-judge_record.ensures.answer,
     )
 
 -- no step is left
@@ -92,7 +92,7 @@ last first k rs step at h inv =
 pub returns-then-next-ne0 : goal.returns-then-next-ne0
 returns-then-next-ne0 c =
     let rs = rows c.args.first c.args.records.now in
-    let is = c.next-after-next-2.ensures.value in
+    let is = c.next_after-next-2.ensures.value in
     record {
       answer =
           ap (λ (f : Fault). Some f) (c.broken-then-next-ne0.ensures.value ∙ ap (λ (n : ℕ). fault n (File Chain)) is)
@@ -106,5 +106,5 @@ returns c =
     record {
       answer =
           sym (last c.args.first c.args.index c.args.records.now c.loop-step.-step c.loop-step.at c.loop-step-test.false c.loop-step.invariant.2
-          ∙ test_end rs c.args.index (length c.args.records.now) c.loop-step.at (sym c.next-after-next-2.ensures.value ∙ c.if-next-ne0.false));
+          ∙ test_end rs c.args.index (length c.args.records.now) c.loop-step.at (sym c.next_after-next-2.ensures.value ∙ c.if-next-ne0.false));
     }
