@@ -1,5 +1,6 @@
 // Digit sources: from a point x below p, the next eight binary digits of x/p and the point that follows them.
 #![tactic(auto)]
+
 mod divider;
 mod doubler;
 mod either;

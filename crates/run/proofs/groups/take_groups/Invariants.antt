@@ -8,6 +8,6 @@ invariant-loop-i g l =
     let w = g.W.Arithmetic in
     let a = l.arithmetic in
     let d = g.S.DigitSource in
-    Gathering (w.modulus a) (w.residue a l.rows.ratio) (2 * l.-i) l.from.point (w.residue a l.from.weight) l.point (w.residue a l.even)
+    Gathering (w.modulus a) (w.residue a l.rows.ratio) (2 * l._i) l.from.point (w.residue a l.from.weight) l.point (w.residue a l.even)
     l.initial.cells l.cells (d.modulus l.source) (d.taken l.initial.source) (d.taken l.source)
     × (w.residue a l.odd ≡ w.residue a l.even * w.residue a l.rows.eighth % w.modulus a)

@@ -27,7 +27,7 @@ loop-i-preserved g c =
     let s₀ = w.residue a c.args.from.sum in
     let x₀ = c.args.from.point in
     let v₀ = w.residue a c.args.from.weight in
-    let n = c.loop-i.-i in
+    let n = c.loop-i._i in
     let s = w.residue a c.loop-i.sum in
     let x = c.loop-i.point in
     let v = w.residue a c.loop-i.weight in
@@ -48,6 +48,6 @@ pub returns : goal.returns
 returns g c =
     let w = g.W.Arithmetic in
     let a = c.args.arithmetic.now in
-    let all : c.loop-i.-i ≡ c.args.terms = omega (arith, c.loop-i-test.false, c.loop-i.auto.-i-end) in
+    let all : c.loop-i._i ≡ c.args.terms = omega (arith, c.loop-i-test.false, c.loop-i.auto._i-end) in
     let along = rw all at c.loop-i.invariant in
     record { sum = along.sum_is; point = along.point_is; weight = along.weight_is }

@@ -5,7 +5,7 @@ use Rattle.digits.proofs.doubler.DoublerDigitSource.group.Goals as goal
 pub loop-i-preserved : goal.loop-i-preserved
 loop-i-preserved c =
     let x = c.start-quotient.result.0 * c.args.self.now.tally.modulus + c.start-quotient.result.1 in (
-      omega (arith, c.doubled.ensures.whole, c.loop-i.invariant.0, ap (λ (k : ℕ). k * x) (pow-add 2 c.loop-i.-i 1)),
+      omega (arith, c.doubled.ensures.whole, c.loop-i.invariant.0, ap (λ (k : ℕ). k * x) (pow-add 2 c.loop-i._i 1)),
       c.doubled.ensures.rest,
     )
 
@@ -14,7 +14,7 @@ doubled-requires c =
     let p = c.args.self.now.tally.modulus in
     let q = c.loop-i.quotient in
     let x = c.start-quotient.result.0 * p + c.start-quotient.result.1 in
-    let few : 2 ^ c.loop-i.-i ≤ 2 ^ 8 = pow_mono {i = c.loop-i.-i} {j = 8} (omega arith) in
+    let few : 2 ^ c.loop-i._i ≤ 2 ^ 8 = pow_mono {i = c.loop-i._i} {j = 8} (omega arith) in
     record {
       fits = omega (arith, c.args.self.now.tally.fit.2);
       below = c.loop-i.invariant.1;
@@ -32,7 +32,7 @@ pub returns : goal.returns
 returns c =
     let p = c.args.self.now.tally.modulus in
     let x = c.args.x in
-    let all : c.loop-i.-i ≡ 8 = omega arith in
+    let all : c.loop-i._i ≡ 8 = omega arith in
     let whole : c.loop-i.quotient * p + c.loop-i.rest ≡ 256 * x =
     c.loop-i.invariant.0
     ∙ ap (λ (k : ℕ). 2 ^ k * (c.start-quotient.result.0 * p + c.start-quotient.result.1)) all

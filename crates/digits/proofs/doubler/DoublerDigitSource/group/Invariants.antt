@@ -3,4 +3,4 @@ use Rattle.digits.proofs.doubler.DoublerDigitSource.group.Given as goal
 
 -- after i digits the quotient and the rest make up 2^i·x
 abbrev pub invariant-loop-i : goal.invariant-loop-i
-invariant-loop-i l = (l.quotient * l.p + l.rest ≡ 2 ^ l.-i * (l.initial.quotient * l.p + l.initial.rest)) × (l.rest < l.p)
+invariant-loop-i l = (l.quotient * l.p + l.rest ≡ 2 ^ l._i * (l.initial.quotient * l.p + l.initial.rest)) × (l.rest < l.p)

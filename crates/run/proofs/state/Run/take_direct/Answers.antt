@@ -32,7 +32,7 @@ pub times-quotient-requires : goal.times-quotient-requires
 times-quotient-requires g c =
     let w = g.W.Arithmetic in
     let a = c.args.arithmetic.now in
-    let t = c.args.self.now.taken + c.loop-i.-i in
+    let t = c.args.self.now.taken + c.loop-i._i in
     let positive : 0 < w.modulus a = omega (arith, c.requires.same, c.args.self.now.fit.0.1) in
     let under : direct_point (w.modulus a) c.args.self.now.generator (t + 1) < w.modulus a =
     direct_point_under (w.modulus a) c.args.self.now.generator (t + 1) positive in
@@ -57,7 +57,7 @@ loop-i-preserved g c =
     ∙ half_below_residue m run.generator odd in
     let stride : w.residue a c.raise-stride.result ≡ run.generator ^ (run.index - 1) % m =
     c.raise-stride.ensures.value ∙ ap (λ (n : ℕ). n ^ (run.index - 1) % m) c.bring_in-2.ensures.value ∙ pow-mod run.generator (run.index - 1) m in
-    let further = term_worked m run.generator run.index (run.taken + c.loop-i.-i)
+    let further = term_worked m run.generator run.index (run.taken + c.loop-i._i)
     (w.residue a c.loop-i.sum) c.loop-i.point (w.residue a c.loop-i.weight)
     (w.residue a c.mul-half_below.result) (w.residue a c.raise-stride.result)
     c.times-quotient.result.0 c.times-quotient.result.1 (w.residue a c.mul-weight.result)
@@ -78,8 +78,8 @@ invariant_of-self g c =
     let w = g.W.Arithmetic in
     let a = c.args.arithmetic.now in
     let run = c.args.self.now in
-    let all : run.taken + c.loop-i.-i ≡ run.taken + c.args.terms = omega (arith, c.loop-i-test.false, c.loop-i.auto.-i-end) in
-    let kept = ended run.modulus (w.modulus a) run.generator run.index (run.taken + c.args.terms) (run.taken + c.loop-i.-i)
+    let all : run.taken + c.loop-i._i ≡ run.taken + c.args.terms = omega (arith, c.loop-i-test.false, c.loop-i.auto._i-end) in
+    let kept = ended run.modulus (w.modulus a) run.generator run.index (run.taken + c.args.terms) (run.taken + c.loop-i._i)
     (w.residue a c.loop-i.sum) c.loop-i.point (w.residue a c.loop-i.weight) c.take_out-self.result c.take_out.result
     c.requires.same all c.take_out-self.ensures.value c.take_out.ensures.value c.loop-i.invariant in
     let within : run.taken + c.args.terms ≤ (run.modulus - 1) / 2 = omega (arith, c.requires.room, run.within) in

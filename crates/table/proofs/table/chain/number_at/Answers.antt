@@ -11,13 +11,13 @@ pub next_after-at-requires : goal.next_after-at-requires
 unfolding chained
 next_after-at-requires c =
     let rs = rows c.args.first c.args.records.now in
-    omega (arith, c.loop-step.invariant, (walk_within (next_in rs) (modulus_in rs) (length c.args.records.now) (length c.args.records.now) 0 c.loop-step.-step c.requires.rising (omega arith)).1)
+    omega (arith, c.loop-step.invariant, (walk_within (next_in rs) (modulus_in rs) (length c.args.records.now) (length c.args.records.now) 0 c.loop-step._step c.requires.rising (omega arith)).1)
 
 pub loop-step-preserved : goal.loop-step-preserved
 loop-step-preserved c =
     let rs = rows c.args.first c.args.records.now in
     let n = length c.args.records.now in
-    let i = c.loop-step.-step in
+    let i = c.loop-step._step in
     let e : suc i ≡ i + 1 = omega arith in
     c.next_after-at.ensures.value
     ∙ ap (next_in rs) c.loop-step.invariant

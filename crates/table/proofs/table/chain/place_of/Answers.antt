@@ -44,28 +44,28 @@ module _ (first : ℕ) (records : List Record) (p step at next : ℕ) (is : next
 
 pub overflow_sub-next : goal.overflow_sub-next
 overflow_sub-next c =
-    (within c.args.first c.args.records.now c.args.modulus c.loop-step.-step c.loop-step.at c.next_after-next.result c.next_after-next.ensures.value c.loop-step-test.true c.loop-step.invariant).0
+    (within c.args.first c.args.records.now c.args.modulus c.loop-step._step c.loop-step.at c.next_after-next.result c.next_after-next.ensures.value c.loop-step-test.true c.loop-step.invariant).0
 
 pub bounds-records-next : goal.bounds-records-next
 bounds-records-next c =
-    let w = within c.args.first c.args.records.now c.args.modulus c.loop-step.-step c.loop-step.at c.next_after-next.result c.next_after-next.ensures.value c.loop-step-test.true c.loop-step.invariant in
+    let w = within c.args.first c.args.records.now c.args.modulus c.loop-step._step c.loop-step.at c.next_after-next.result c.next_after-next.ensures.value c.loop-step-test.true c.loop-step.invariant in
     omega arith
 
 pub returns-then-records-next : goal.returns-then-records-next
 returns-then-records-next c =
     record {
-      value = here c.args.first c.args.records.now c.args.modulus c.loop-step.-step c.loop-step.at c.next_after-next.result c.next_after-next.ensures.value c.loop-step-test.true c.loop-step.invariant c.if-records-next.true;
+      value = here c.args.first c.args.records.now c.args.modulus c.loop-step._step c.loop-step.at c.next_after-next.result c.next_after-next.ensures.value c.loop-step-test.true c.loop-step.invariant c.if-records-next.true;
     }
 
 pub loop-step-preserved : goal.loop-step-preserved
 loop-step-preserved c =
-    on c.args.first c.args.records.now c.args.modulus c.loop-step.-step c.loop-step.at c.next_after-next.result c.next_after-next.ensures.value c.loop-step-test.true c.loop-step.invariant c.if-records-next.false
+    on c.args.first c.args.records.now c.args.modulus c.loop-step._step c.loop-step.at c.next_after-next.result c.next_after-next.ensures.value c.loop-step-test.true c.loop-step.invariant c.if-records-next.false
 
 pub returns : goal.returns
 returns c =
     let rs = rows c.args.first c.args.records.now in
     let n = length c.args.records.now in
-    let none : n - c.loop-step.-step ≡ 0 = omega arith in
+    let none : n - c.loop-step._step ≡ 0 = omega arith in
     record {
       value =
           reached_end (next_in rs) (modulus_in rs) n c.args.modulus c.loop-step.at

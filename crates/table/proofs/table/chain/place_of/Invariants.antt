@@ -5,4 +5,4 @@ use Rattle.table.proofs.table.chain.place_of.Given as goal
 
 abbrev pub invariant-loop-step : goal.invariant-loop-step
 invariant-loop-step l =
-    Reached (next_in (rows l.first l.records)) (modulus_in (rows l.first l.records)) (length l.records) l.modulus (length l.records - l.-step) l.at
+    Reached (next_in (rows l.first l.records)) (modulus_in (rows l.first l.records)) (length l.records) l.modulus (length l.records - l._step) l.at

@@ -53,13 +53,13 @@ module _ (first k : ℕ) (rs : List Record) (step at next before : ℕ) (h : ste
 pub returns-then-next-eq0 : goal.returns-then-next-eq0
 returns-then-next-eq0 c =
     record {
-      answer = early c.args.first c.args.index c.args.records.now c.loop-step.-step c.loop-step.at c.next_after-next.result c.loop-step.before c.loop-step-test.true c.next_after-next.ensures.value c.loop-step.invariant.1 c.loop-step.invariant.2 c.broken.result c.broken.ensures.value c.if-next-eq0.true;
+      answer = early c.args.first c.args.index c.args.records.now c.loop-step._step c.loop-step.at c.next_after-next.result c.loop-step.before c.loop-step-test.true c.next_after-next.ensures.value c.loop-step.invariant.1 c.loop-step.invariant.2 c.broken.result c.broken.ensures.value c.if-next-eq0.true;
     }
 
 pub returns-then-next-records : goal.returns-then-next-records
 returns-then-next-records c =
     record {
-      answer = far c.args.first c.args.index c.args.records.now c.loop-step.-step c.loop-step.at c.next_after-next.result c.loop-step.before c.loop-step-test.true c.next_after-next.ensures.value c.loop-step.invariant.1 c.loop-step.invariant.2 c.broken-then-next-records.result c.broken-then-next-records.ensures.value c.if-next-eq0.false c.if-next-records.true;
+      answer = far c.args.first c.args.index c.args.records.now c.loop-step._step c.loop-step.at c.next_after-next.result c.loop-step.before c.loop-step-test.true c.next_after-next.ensures.value c.loop-step.invariant.1 c.loop-step.invariant.2 c.broken-then-next-records.result c.broken-then-next-records.ensures.value c.if-next-eq0.false c.if-next-records.true;
     }
 
 pub returns-in_err-judge_record : goal.returns-in_err-judge_record
@@ -69,7 +69,7 @@ returns-in_err-judge_record c =
       answer =
           ap result_err p.1
           ∙ ap (λ (f : Fault). Some f) p.2
-          ∙ bad c.args.first c.args.index c.args.records.now c.loop-step.-step c.loop-step.at c.next_after-next.result c.loop-step.before c.loop-step-test.true c.next_after-next.ensures.value c.loop-step.invariant.1 c.loop-step.invariant.2 c.in_err-judge_record.field-0.0 c.if-next-eq0.false c.if-next-records.false c.in_err-judge_record.ensures.answer;
+          ∙ bad c.args.first c.args.index c.args.records.now c.loop-step._step c.loop-step.at c.next_after-next.result c.loop-step.before c.loop-step-test.true c.next_after-next.ensures.value c.loop-step.invariant.1 c.loop-step.invariant.2 c.in_err-judge_record.field-0.0 c.if-next-eq0.false c.if-next-records.false c.in_err-judge_record.ensures.answer;
     }
 
 pub loop-step-preserved : goal.loop-step-preserved
@@ -78,7 +78,7 @@ loop-step-preserved c =
     let low : 1 ≤ c.next_after-next.result = omega arith in (
       c.if-next-records.false,
       ap (λ (r : Record). r.modulus) (sym (row_at c.args.first c.args.records.now c.next_after-next.result low)),
-      on c.args.first c.args.index c.args.records.now c.loop-step.-step c.loop-step.at c.next_after-next.result c.loop-step.before c.loop-step-test.true c.next_after-next.ensures.value c.loop-step.invariant.1 c.loop-step.invariant.2 ne c.if-next-records.false c.in_ok-judge_record.ensures.answer,
+      on c.args.first c.args.index c.args.records.now c.loop-step._step c.loop-step.at c.next_after-next.result c.loop-step.before c.loop-step-test.true c.next_after-next.ensures.value c.loop-step.invariant.1 c.loop-step.invariant.2 ne c.if-next-records.false c.in_ok-judge_record.ensures.answer,
     )
 
 -- no step is left
@@ -96,7 +96,7 @@ returns-then-next-ne0 c =
     record {
       answer =
           ap (λ (f : Fault). Some f) (c.broken-then-next-ne0.ensures.value ∙ ap (λ (n : ℕ). fault n (File Chain)) is)
-          ∙ sym (last c.args.first c.args.index c.args.records.now c.loop-step.-step c.loop-step.at c.loop-step-test.false c.loop-step.invariant.2
+          ∙ sym (last c.args.first c.args.index c.args.records.now c.loop-step._step c.loop-step.at c.loop-step-test.false c.loop-step.invariant.2
           ∙ test_over rs c.args.index (length c.args.records.now) c.loop-step.at (λ z. c.if-next-ne0.true (is ∙ z)));
     }
 
@@ -105,6 +105,6 @@ returns c =
     let rs = rows c.args.first c.args.records.now in
     record {
       answer =
-          sym (last c.args.first c.args.index c.args.records.now c.loop-step.-step c.loop-step.at c.loop-step-test.false c.loop-step.invariant.2
+          sym (last c.args.first c.args.index c.args.records.now c.loop-step._step c.loop-step.at c.loop-step-test.false c.loop-step.invariant.2
           ∙ test_end rs c.args.index (length c.args.records.now) c.loop-step.at (sym c.next_after-next-2.ensures.value ∙ c.if-next-ne0.false));
     }

@@ -10,4 +10,4 @@ invariant-loop-step l =
     (l.at ≤ length l.records)
     × (l.before ≡ modulus_in (rows l.first l.records) l.at)
     × (first_cause (chain_tests (rows l.first l.records) l.index (length l.records) (length l.records) 0)
-    ≡ first_cause (chain_tests (rows l.first l.records) l.index (length l.records) (length l.records - l.-step) l.at))
+    ≡ first_cause (chain_tests (rows l.first l.records) l.index (length l.records) (length l.records - l._step) l.at))
