@@ -1,5 +1,6 @@
 // The record table: the pairs of a listing or a book in order of entering, and their chain in rising order of modulus.
 #![tactic(auto)]
+
 mod fault;
 mod pair;
 mod table;

@@ -10,7 +10,10 @@ pub invariant_of-self : goal.invariant_of-self
 invariant_of-self c =
     let k = c.args.index in
     let none = c.clear.ensures.items in
-    let stands = not-false (index_stands k) (all_fail (index_causes k) (sym c.in_ok-try_index.ensures.answer)).0 in (
-      omega (arith, c.clear.ensures.capacity, c.args.self.now.room),
-      (omega (arith, c.clear.ensures.len), (stands, (chained_none _ none, (every_none (record_fits k) _ none, tt)))),
-    )
+    let stands = not-false (index_stands k) (all_fail (index_causes k) (sym c.in_ok-try_index.ensures.answer)).0 in record {
+      room = omega (arith, c.clear.ensures.capacity, c.args.self.now.room);
+      few = omega (arith, c.clear.ensures.len);
+      stands = stands;
+      rising = chained_none _ none;
+      fits = every_none (record_fits k) _ none;
+    }

@@ -65,23 +65,13 @@ invariant_of-self c =
     let mid = vec_items c.relink.new.records in
     let rs' = vec_items c.push_reserved.new.self in
     let last : c.len.result + 1 ≡ suc (length rs) = omega (arith, c.len.ensures, t.records.ok.0) in
-    let put = pushed t.first rs c.as_slice-2.result.now mid rs' p g at c.next_after-next.result c.as_slice-2.ensures.value c.next_after-next.ensures.value c.push_reserved.ensures.items in (
-      omega (arith, c.push_reserved.ensures.capacity, c.relink.ensures.capacity, t.room),
-      (
-        omega (arith, c.push_reserved.ensures.len, c.relink.ensures.len, passed.3, t.records.ok.0),
-        (
-          t.stands,
-          (
-            linked_chain t.first c.relink.new.first rs mid rs' p g at (c.len.result + 1) t.rising passed.4 (positive p passed.0) here last c.relink.ensures.linked put,
-            (
-              linked_every t.first c.relink.new.first rs mid rs' p g at (c.len.result + 1) t.rising passed.4 (positive p passed.0) here last c.relink.ensures.linked put
-                  (record_fits t.index) (blind t.index) t.fits (new_fits t.index p g passed.0 passed.1 passed.2),
-              tt,
-            ),
-          ),
-        ),
-      ),
-    )
+    let put = pushed t.first rs c.as_slice-2.result.now mid rs' p g at c.next_after-next.result c.as_slice-2.ensures.value c.next_after-next.ensures.value c.push_reserved.ensures.items in record {
+      room = omega (arith, c.push_reserved.ensures.capacity, c.relink.ensures.capacity, t.room);
+      few = omega (arith, c.push_reserved.ensures.len, c.relink.ensures.len, passed.3, t.records.ok.0);
+      stands = t.stands;
+      rising = linked_chain t.first c.relink.new.first rs mid rs' p g at (c.len.result + 1) t.rising passed.4 (positive p passed.0) here last c.relink.ensures.linked put;
+      fits = linked_every t.first c.relink.new.first rs mid rs' p g at (c.len.result + 1) t.rising passed.4 (positive p passed.0) here last c.relink.ensures.linked put (record_fits t.index) (blind t.index) t.fits (new_fits t.index p g passed.0 passed.1 passed.2);
+    }
 
 pub returns : goal.returns
 returns c =

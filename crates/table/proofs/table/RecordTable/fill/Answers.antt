@@ -34,19 +34,13 @@ invariant_of-self c =
     let fit : record_fits t.index y ≡ true =
     ap (record_fits t.index) is ∙ every_at (record_fits t.index) rs (n - 1) (head 0) t.fits within
     in
-    let under : v < y.modulus = omega (arith, ap (λ (x : Record). x.modulus) (is ∙ at.2), c.if-residue-record.false) in (
-      t.room,
-      (
-        t.few,
-        (
-          t.stands,
-          (
-            filled_chain t.first rs (n - 1) (with_residue y v) within (ap (λ (x : Record). x.next) is) (ap (λ (x : Record). x.modulus) is) t.rising,
-            (filled_every t.first rs (n - 1) (with_residue y v) within (record_fits t.index) t.fits (filled_fits t.index y v fit under), tt),
-          ),
-        ),
-      ),
-    )
+    let under : v < y.modulus = omega (arith, ap (λ (x : Record). x.modulus) (is ∙ at.2), c.if-residue-record.false) in record {
+      room = t.room;
+      few = t.few;
+      stands = t.stands;
+      rising = filled_chain t.first rs (n - 1) (with_residue y v) within (ap (λ (x : Record). x.next) is) (ap (λ (x : Record). x.modulus) is) t.rising;
+      fits = filled_every t.first rs (n - 1) (with_residue y v) within (record_fits t.index) t.fits (filled_fits t.index y v fit under);
+    }
 
 pub returns : goal.returns
 returns c =

@@ -6,4 +6,10 @@ use Rattle.table.proofs.table.RecordTable.new.Goals as goal
 pub invariant_of-result : goal.invariant_of-result
 invariant_of-result c =
     let made = c.in_ok-records.ensures in
-    (made.capacity, (omega (arith, made.len), (refl, (chained_none _ made.items, (every_none (record_fits 2) _ made.items, tt)))))
+    record {
+      room = made.capacity;
+      few = omega (arith, made.len);
+      stands = refl;
+      rising = chained_none _ made.items;
+      fits = every_none (record_fits 2) _ made.items;
+    }

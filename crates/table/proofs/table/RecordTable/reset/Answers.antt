@@ -5,7 +5,10 @@ use Rattle.table.proofs.table.RecordTable.reset.Goals as goal
 
 pub invariant_of-self : goal.invariant_of-self
 invariant_of-self c =
-    let none = c.clear.ensures.items in (
-      omega (arith, c.clear.ensures.capacity, c.args.self.now.room),
-      (omega (arith, c.clear.ensures.len), (refl, (chained_none _ none, (every_none (record_fits 2) _ none, tt)))),
-    )
+    let none = c.clear.ensures.items in record {
+      room = omega (arith, c.clear.ensures.capacity, c.args.self.now.room);
+      few = omega (arith, c.clear.ensures.len);
+      stands = refl;
+      rising = chained_none _ none;
+      fits = every_none (record_fits 2) _ none;
+    }
