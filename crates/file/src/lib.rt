@@ -1,5 +1,6 @@
 // A record table as a file: writing it into a lent output, and reading it from any bytes.
 #![tactic(auto)]
+
 mod reading;
 mod writing;
 

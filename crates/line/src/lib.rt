@@ -1,5 +1,6 @@
 // Putting bytes out into a lent output, and the two kinds of text line.
 #![tactic(auto)]
+
 mod put;
 mod text;
 

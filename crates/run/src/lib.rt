@@ -1,5 +1,6 @@
 // Runs: the terms of a sum, taken in shares with any arithmetic, and the residue that a whole run gives.
 #![tactic(auto)]
+
 mod carry;
 mod cells;
 mod count;

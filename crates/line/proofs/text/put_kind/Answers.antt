@@ -19,6 +19,6 @@ returns-in-Direct c =
 pub returns-in-Doubling : goal.returns-in-Doubling
 returns-in-Doubling c =
     record {
-      front = named Kind.Doubling c.args.kind (take c.args.at c.args.text.now) _ (sym c.in-Doubling.is) c.put-text_in-Doubling.ensures.front;
+      front = named Kind.Doubling c.args.kind (take c.args.at c.args.text.now) _ (sym c.in-Doubling.is) c.put_text-in-Doubling.ensures.front;
       bound = omega arith;
     }

@@ -20,7 +20,7 @@ returns g c =
     let a = c.args.arithmetic.now in
     let p = g.W.Arithmetic.modulus a in
     record {
-      started = doubling_started c.row_length_of.result c.args.index p c.row_length_of.ensures.value (g.met.W.Arithmetic.fit a)
+      started = doubling_started c.row_length.result c.args.index p c.row_length.ensures.value (g.met.W.Arithmetic.fit a)
           (ap (λ (n : ℕ). 2 ^ (n - 1) % p) (sym c.modulus.ensures.value) ∙ true-eqb _ 1 c.if-not-leaves_one.ensures.value)
           (false-eqb _ 1 c.if-leaves_one.ensures.value);
     }

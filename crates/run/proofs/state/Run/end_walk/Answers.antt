@@ -12,20 +12,10 @@ invariant_of-self g c =
     let walk = c.args.walk in
     let residue = g.W.Arithmetic.residue c.args.arithmetic.now in
     let usable : can_run Doubling run.modulus run.index ≡ true =
-    ap (λ (k : Kind). can_run k run.modulus run.index) (sym c.requires.kind) ∙ run.usable in (
-      run.fit,
-      (
-        usable,
-        (
-          c.requires.few,
-          (
-            c.take_out-self.ensures.value ∙ c.requires.sum,
-            (
-              walk_ended residue run.modulus run.generator run.index (omega (arith, run.fit.0.1)) c.requires.walking.0 c.args.row_length_of c.take_out.result c.take_out-2.result walk
-                  c.requires.walking.1 c.requires.room c.requires.length c.take_out.ensures.value c.take_out-2.ensures.value,
-              tt,
-            ),
-          ),
-        ),
-      ),
-    )
+    ap (λ (k : Kind). can_run k run.modulus run.index) (sym c.requires.kind) ∙ run.usable in record {
+      fit = run.fit;
+      usable = usable;
+      within = c.requires.few;
+      summed = c.take_out-self.ensures.value ∙ c.requires.sum;
+      placed = walk_ended residue run.modulus run.generator run.index (omega (arith, run.fit.0.1)) c.requires.walking.0 c.args.row_length c.take_out.result c.take_out-2.result walk c.requires.walking.1 c.requires.room c.requires.length c.take_out.ensures.value c.take_out-2.ensures.value;
+    }

@@ -24,7 +24,10 @@ invariant_of-result c =
     let paired = c.in_ok-plain.ensures.causes in
     let started : Started c.args.kind c.args.index c.args.modulus (Some c.in-Some.progress) =
     subst (λ (n : ℕ). Started c.args.kind c.args.index n (Some c.in-Some.progress)) paired.2 c.in-Some.ensures.started in
-    let kept = started_kept c.args.kind c.args.index c.args.modulus c.args.generator c.in-Some.progress started in (
-      paired.1,
-      (kept.0, (omega arith, (sum_start (kind_of c.in-Some.progress) c.args.modulus c.args.generator c.args.index, (kept.1, tt)))),
-    )
+    let kept = started_kept c.args.kind c.args.index c.args.modulus c.args.generator c.in-Some.progress started in record {
+      fit = paired.1;
+      usable = kept.0;
+      within = omega arith;
+      summed = sum_start (kind_of c.in-Some.progress) c.args.modulus c.args.generator c.args.index;
+      placed = kept.1;
+    }

@@ -83,4 +83,10 @@ invariant_of-self g c =
     (w.residue a c.loop-i.sum) c.loop-i.point (w.residue a c.loop-i.weight) c.take_out-self.result c.take_out.result
     c.requires.same all c.take_out-self.ensures.value c.take_out.ensures.value c.loop-i.invariant in
     let within : run.taken + c.args.terms ≤ (run.modulus - 1) / 2 = omega (arith, c.requires.room, run.within) in
-    (run.fit, (refl, (within, (kept.0, (kept.1, tt)))))
+    record {
+      fit = run.fit;
+      usable = refl;
+      within = within;
+      summed = kept.0;
+      placed = kept.1;
+    }
