@@ -7,7 +7,7 @@ use arithmetic::{Arithmetic, invert};
 
 // The residue of the number that the digits spell.
 fn digits_residue<W: Arithmetic>(arithmetic: &W, digits: &[u8]) -> u32
-    ensures value { result ≡ spelled 0 digits.now % modulus arithmetic.now }
+    ensures value { result ≡ spelled 0 digits.now % W.modulus arithmetic.now }
 {
     let p = arithmetic.modulus() as u64;
     let mut rest = 0;
@@ -19,7 +19,7 @@ fn digits_residue<W: Arithmetic>(arithmetic: &W, digits: &[u8]) -> u32
 
 // The residue of the number with its sign.
 fn signed_residue<W: Arithmetic>(arithmetic: &W, negative: bool, digits: &[u8]) -> W::Element
-    ensures value { residue arithmetic.now result ≡ signed_residue (modulus arithmetic.now) negative digits.now }
+    ensures value { W.residue arithmetic.now result ≡ signed_residue (W.modulus arithmetic.now) negative digits.now }
 {
     let size = arithmetic.bring_in(digits_residue(arithmetic, digits));
     if negative {
@@ -36,7 +36,7 @@ pub(crate) fn fraction_residue<W: Arithmetic>(
     digits: &[u8],
     denominator: u32,
 ) -> u32
-    ensures value { result ≡ signed_residue (modulus arithmetic.now) negative digits.now * inverse (modulus arithmetic.now) denominator % modulus arithmetic.now }
+    ensures value { result ≡ signed_residue (W.modulus arithmetic.now) negative digits.now * inverse (W.modulus arithmetic.now) denominator % W.modulus arithmetic.now }
 {
     let above = signed_residue(arithmetic, negative, digits);
     let below = arithmetic.bring_in(denominator);

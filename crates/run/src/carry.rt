@@ -11,7 +11,7 @@ pub const LARGEST_SHARE: u32 = 1048576;
 impl Run {
     // Takes the smaller of the terms asked for and the terms left, and reports how many.
     pub fn carry_on<W: Arithmetic>(&mut self, arithmetic: &W, terms: u32) -> Result<u32, Refusal>
-        ensures shared { Shared (carry_causes self.old (modulus arithmetic.now) terms) terms self.old self.new result }
+        ensures shared { Shared (carry_causes self.old (W.modulus arithmetic.now) terms) terms self.old self.new result }
     {
         if arithmetic.modulus() != self.modulus {
             return Err(Refusal::OtherArithmetic);

@@ -20,9 +20,9 @@ impl Run {
         cells: &mut [u64],
         terms: u32,
     ) -> Result<u32, Refusal>
-        ensures shared { Shared (count_causes self.old (length cells.old) (W.Arithmetic.modulus arithmetic.now) (S.DigitSource.modulus source.old) terms) terms self.old self.new result }
+        ensures shared { Shared (count_causes self.old (length cells.old) (W.modulus arithmetic.now) (S.modulus source.old) terms) terms self.old self.new result }
         ensures cells { Lent cells.old cells.new }
-        ensures source { Read S.DigitSource.modulus S.DigitSource.taken self.old source.old source.new result }
+        ensures source { Read S.modulus S.taken self.old source.old source.new result }
     {
         if cells.len() != 256 {
             return Err(Refusal::CellCount);

@@ -29,22 +29,22 @@ impl Run {
         walk: Walk<W::Element>,
         groups: u32,
     ) -> Walk<W::Element>
-        requires same { W.Arithmetic.modulus arithmetic.now ≡ self.now.modulus }
-        requires source { S.DigitSource.modulus source.old ≡ self.now.modulus }
+        requires same { W.modulus arithmetic.now ≡ self.now.modulus }
+        requires source { S.modulus source.old ≡ self.now.modulus }
         requires cells { length cells.old ≡ 256 }
-        requires rows { RowsOf (residue arithmetic.now) self.now.modulus self.now.generator self.now.index rows.now }
-        requires walking { Walking (residue arithmetic.now) self.now.modulus self.now.generator self.now.index walk }
+        requires rows { RowsOf (W.residue arithmetic.now) self.now.modulus self.now.generator self.now.index rows.now }
+        requires walking { Walking (W.residue arithmetic.now) self.now.modulus self.now.generator self.now.index walk }
         requires row { walk.place + 8 * groups ≤ row_length_of self.now.modulus }
         requires few { walk.taken + 8 * groups ≤ terms_of self.now.modulus }
         requires room { (i : ℕ) → slice_index cells.old i + groups * self.now.modulus < 2 ^ 64 }
-        ensures walking { Walking (residue arithmetic.now) self.now.modulus self.now.generator self.now.index result }
+        ensures walking { Walking (W.residue arithmetic.now) self.now.modulus self.now.generator self.now.index result }
         ensures taken { result.taken ≡ walk.taken + 8 * groups }
         ensures place { result.place ≡ walk.place + 8 * groups }
         ensures sum { result.next.sum ≡ walk.next.sum }
-        ensures counted { (s : ℕ) → (s + weighed self.now.modulus (residue arithmetic.now rows.now.ratio) 8 cells.old) % self.now.modulus ≡ doubling_sum self.now.modulus self.now.generator self.now.index walk.taken → (s + weighed self.now.modulus (residue arithmetic.now rows.now.ratio) 8 cells.new) % self.now.modulus ≡ doubling_sum self.now.modulus self.now.generator self.now.index (walk.taken + 8 * groups) }
+        ensures counted { (s : ℕ) → (s + weighed self.now.modulus (W.residue arithmetic.now rows.now.ratio) 8 cells.old) % self.now.modulus ≡ doubling_sum self.now.modulus self.now.generator self.now.index walk.taken → (s + weighed self.now.modulus (W.residue arithmetic.now rows.now.ratio) 8 cells.new) % self.now.modulus ≡ doubling_sum self.now.modulus self.now.generator self.now.index (walk.taken + 8 * groups) }
         ensures room { Room self.now.modulus groups cells.old cells.new }
-        ensures source { S.DigitSource.modulus source.new ≡ S.DigitSource.modulus source.old }
-        ensures count { S.DigitSource.taken source.new ≡ capped (S.DigitSource.taken source.old + groups) }
+        ensures source { S.modulus source.new ≡ S.modulus source.old }
+        ensures count { S.taken source.new ≡ capped (S.taken source.old + groups) }
     {
         let terms = 8 * groups;
         Walk {
@@ -66,15 +66,15 @@ impl Run {
         from: DoublingPlace,
         terms: u32,
     )
-        requires same { W.Arithmetic.modulus arithmetic.now ≡ self.old.modulus }
-        requires source { S.DigitSource.modulus source.old ≡ self.old.modulus }
+        requires same { W.modulus arithmetic.now ≡ self.old.modulus }
+        requires source { S.modulus source.old ≡ self.old.modulus }
         requires cells { length cells.old ≡ 256 }
         requires place { self.old.progress ≡ Progress.Doubling from }
         requires share { terms ≤ 1048576 }
         requires room { terms ≤ left_of self.old }
         ensures stands { Stands self.new Kind.Doubling self.old.index self.old.modulus self.old.generator (self.old.taken + terms) }
-        ensures source { S.DigitSource.modulus source.new ≡ S.DigitSource.modulus source.old }
-        ensures count { S.DigitSource.taken source.new ≡ capped (S.DigitSource.taken source.old + groups_of 8 (row_length_of self.old.modulus) (self.old.taken % row_length_of self.old.modulus) terms) }
+        ensures source { S.modulus source.new ≡ S.modulus source.old }
+        ensures count { S.taken source.new ≡ capped (S.taken source.old + groups_of 8 (row_length_of self.old.modulus) (self.old.taken % row_length_of self.old.modulus) terms) }
     {
         clear(cells);
         let rows = self.rows(arithmetic, from.row_length);

@@ -16,7 +16,7 @@ impl Run {
         from: DirectPlace,
         terms: u32,
     )
-        requires same { modulus arithmetic.now ≡ self.old.modulus }
+        requires same { W.modulus arithmetic.now ≡ self.old.modulus }
         requires place { self.old.progress ≡ Progress.Direct from }
         requires room { terms ≤ left_of self.old }
         ensures stands { Stands self.new (kind_of self.old.progress) self.old.index self.old.modulus self.old.generator (self.old.taken + terms) }

@@ -15,7 +15,7 @@ impl Run {
         from: DoublingPlace,
         terms: u32,
     )
-        requires same { modulus arithmetic.now ≡ self.old.modulus }
+        requires same { W.modulus arithmetic.now ≡ self.old.modulus }
         requires place { self.old.progress ≡ Progress.Doubling from }
         requires room { terms ≤ left_of self.old }
         ensures stands { Stands self.new Kind.Doubling self.old.index self.old.modulus self.old.generator (self.old.taken + terms) }

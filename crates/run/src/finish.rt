@@ -14,7 +14,7 @@ use theory::Kind;
 impl Run {
     // The result of a run whose terms are all taken.
     fn result<W: Arithmetic>(&self, arithmetic: &W) -> u32
-        requires same { modulus arithmetic.now ≡ self.now.modulus }
+        requires same { W.modulus arithmetic.now ≡ self.now.modulus }
         requires whole { left_of self.now ≡ 0 }
         ensures value { result ≡ run_result (kind_of self.now.progress) self.now.modulus self.now.generator self.now.index }
     {
@@ -26,7 +26,7 @@ impl Run {
 
     // Uses up a run whose terms are all taken; a refused run is handed back.
     pub fn finish<W: Arithmetic>(self, arithmetic: &W) -> Result<FinishedResidue, (Refusal, Run)>
-        ensures finished { Finished self (modulus arithmetic.now) result }
+        ensures finished { Finished self (W.modulus arithmetic.now) result }
     {
         if arithmetic.modulus() != self.modulus {
             return Err((Refusal::OtherArithmetic, self));

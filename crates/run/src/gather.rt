@@ -6,7 +6,7 @@ use arithmetic::Arithmetic;
 
 // The powers of the ratio from 0 to 7, taken out.
 fn powers_of<W: Arithmetic>(arithmetic: &W, ratio: W::Element) -> [u32; 8]
-    ensures value { (u : ℕ) → u < 8 → slice_index result u ≡ residue arithmetic.now ratio ^ u % modulus arithmetic.now }
+    ensures value { (u : ℕ) → u < 8 → slice_index result u ≡ W.residue arithmetic.now ratio ^ u % W.modulus arithmetic.now }
 {
     let mut powers = [0; 8];
     let mut power = arithmetic.bring_in(1);
@@ -19,7 +19,7 @@ fn powers_of<W: Arithmetic>(arithmetic: &W, ratio: W::Element) -> [u32; 8]
 
 // The sign sum of a cell's number: the first digit is its highest, and a digit 1 makes the power negative.
 fn sum_signs<W: Arithmetic>(arithmetic: &W, powers: &[u32; 8], number: usize) -> W::Element
-    ensures value { (r : ℕ) → ((u : ℕ) → u < 8 → slice_index powers.now u ≡ r ^ u % modulus arithmetic.now) → residue arithmetic.now result ≡ sign_sum (modulus arithmetic.now) r 8 number % modulus arithmetic.now }
+    ensures value { (r : ℕ) → ((u : ℕ) → u < 8 → slice_index powers.now u ≡ r ^ u % W.modulus arithmetic.now) → W.residue arithmetic.now result ≡ sign_sum (W.modulus arithmetic.now) r 8 number % W.modulus arithmetic.now }
 {
     let mut sum = arithmetic.bring_in(0);
     for (u, power) in powers.iter().enumerate() {
@@ -36,7 +36,7 @@ fn sum_signs<W: Arithmetic>(arithmetic: &W, powers: &[u32; 8], number: usize) ->
 // Every cell times the sign sum of its number.
 pub(crate) fn gather<W: Arithmetic>(arithmetic: &W, ratio: W::Element, cells: &[u64]) -> W::Element
     requires cells { length cells.now ≡ 256 }
-    ensures value { residue arithmetic.now result ≡ weighed (modulus arithmetic.now) (residue arithmetic.now ratio) 8 cells.now % modulus arithmetic.now }
+    ensures value { W.residue arithmetic.now result ≡ weighed (W.modulus arithmetic.now) (W.residue arithmetic.now ratio) 8 cells.now % W.modulus arithmetic.now }
 {
     let p = arithmetic.modulus() as u64;
     let powers = powers_of(arithmetic, ratio);

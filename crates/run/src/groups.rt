@@ -12,12 +12,12 @@ use digits::DigitSource;
 // point of the next group.
 fn deposit<S: DigitSource>(source: &mut S, cells: &mut [u64], point: u32, weight: u32) -> u32
     requires cells { length cells.old ≡ 256 }
-    requires below { point < modulus source.old }
+    requires below { point < S.modulus source.old }
     requires room { (i : ℕ) → slice_index cells.old i + weight < 2 ^ 64 }
-    ensures point { result ≡ 256 * point % modulus source.old }
-    ensures cells { cells.new ≡ slice_set cells.old (256 * point / modulus source.old) (slice_index cells.old (256 * point / modulus source.old) + weight) }
-    ensures same { modulus source.new ≡ modulus source.old }
-    ensures count { taken source.new ≡ capped (taken source.old + 1) }
+    ensures point { result ≡ 256 * point % S.modulus source.old }
+    ensures cells { cells.new ≡ slice_set cells.old (256 * point / S.modulus source.old) (slice_index cells.old (256 * point / S.modulus source.old) + weight) }
+    ensures same { S.modulus source.new ≡ S.modulus source.old }
+    ensures count { S.taken source.new ≡ capped (S.taken source.old + 1) }
 {
     let (group, next) = source.group(point);
     let cell = group as usize;
@@ -35,17 +35,17 @@ pub(crate) fn take_groups<W: Arithmetic, S: DigitSource>(
     from: Stretch<W::Element>,
     groups: u32,
 ) -> Stretch<W::Element>
-    requires same { S.DigitSource.modulus source.old ≡ W.Arithmetic.modulus arithmetic.now }
+    requires same { S.modulus source.old ≡ W.modulus arithmetic.now }
     requires cells { length cells.old ≡ 256 }
-    requires below { from.point < W.Arithmetic.modulus arithmetic.now }
-    requires room { (i : ℕ) → slice_index cells.old i + groups * W.Arithmetic.modulus arithmetic.now < 2 ^ 64 }
-    requires eighth { residue arithmetic.now rows.now.eighth ≡ residue arithmetic.now rows.now.ratio ^ 8 % W.Arithmetic.modulus arithmetic.now }
-    requires sixteenth { residue arithmetic.now rows.now.sixteenth ≡ residue arithmetic.now rows.now.eighth * residue arithmetic.now rows.now.eighth % W.Arithmetic.modulus arithmetic.now }
-    ensures counted { Counted (W.Arithmetic.modulus arithmetic.now) (residue arithmetic.now rows.now.ratio) 8 groups from.point (residue arithmetic.now from.weight) result.point (residue arithmetic.now result.weight) cells.old cells.new }
-    ensures room { Room (W.Arithmetic.modulus arithmetic.now) groups cells.old cells.new }
+    requires below { from.point < W.modulus arithmetic.now }
+    requires room { (i : ℕ) → slice_index cells.old i + groups * W.modulus arithmetic.now < 2 ^ 64 }
+    requires eighth { W.residue arithmetic.now rows.now.eighth ≡ W.residue arithmetic.now rows.now.ratio ^ 8 % W.modulus arithmetic.now }
+    requires sixteenth { W.residue arithmetic.now rows.now.sixteenth ≡ W.residue arithmetic.now rows.now.eighth * W.residue arithmetic.now rows.now.eighth % W.modulus arithmetic.now }
+    ensures counted { Counted (W.modulus arithmetic.now) (W.residue arithmetic.now rows.now.ratio) 8 groups from.point (W.residue arithmetic.now from.weight) result.point (W.residue arithmetic.now result.weight) cells.old cells.new }
+    ensures room { Room (W.modulus arithmetic.now) groups cells.old cells.new }
     ensures sum { result.sum ≡ from.sum }
-    ensures same { S.DigitSource.modulus source.new ≡ S.DigitSource.modulus source.old }
-    ensures count { taken source.new ≡ capped (taken source.old + groups) }
+    ensures same { S.modulus source.new ≡ S.modulus source.old }
+    ensures count { S.taken source.new ≡ capped (S.taken source.old + groups) }
 {
     let mut point = from.point;
     let mut even = from.weight;

@@ -19,7 +19,7 @@ fn check_pair(index: u32, modulus: u32, generator: u32) -> Result<Plain, Refusal
 
 // Where a doubling run begins, if it is usable: 2n' divides p − 1 exactly where 2^(p − 1) leaves 1.
 fn start_doubling<W: Arithmetic>(arithmetic: &W, index: u32) -> Option<Progress>
-    ensures started { Started Kind.Doubling index (modulus arithmetic.now) result }
+    ensures started { Started Kind.Doubling index (W.modulus arithmetic.now) result }
 {
     if !leaves_one(arithmetic, arithmetic.modulus() - 1) {
         return None;
@@ -39,7 +39,7 @@ fn start_doubling<W: Arithmetic>(arithmetic: &W, index: u32) -> Option<Progress>
 
 // Where a run of this kind begins, if one can be opened.
 fn start<W: Arithmetic>(arithmetic: &W, kind: Kind, index: u32) -> Option<Progress>
-    ensures started { Started kind index (modulus arithmetic.now) result }
+    ensures started { Started kind index (W.modulus arithmetic.now) result }
 {
     match kind {
         Kind::Direct => Some(Progress::Direct(DirectPlace {

@@ -6,7 +6,7 @@ use arithmetic::{Arithmetic, raise};
 
 // Whether 2^e leaves 1.
 pub(crate) fn leaves_one<W: Arithmetic>(arithmetic: &W, exponent: u32) -> bool
-    ensures value { result ≡ (2 ^ exponent % modulus arithmetic.now == 1) }
+    ensures value { result ≡ (2 ^ exponent % W.modulus arithmetic.now == 1) }
 {
     let power = raise(arithmetic, arithmetic.bring_in(2), exponent);
     arithmetic.take_out(power) == 1
@@ -15,8 +15,8 @@ pub(crate) fn leaves_one<W: Arithmetic>(arithmetic: &W, exponent: u32) -> bool
 // The order, where 2^(p − 1) leaves 1: then it divides p − 1, so the divisors d up to the root of p − 1 are tried, each
 // with its cofactor. The cofactors fall, so the last one that leaves 1 is the least of them.
 fn order_of_two<W: Arithmetic>(arithmetic: &W) -> u32
-    requires whole { 2 ^ (modulus arithmetic.now - 1) % modulus arithmetic.now ≡ 1 }
-    ensures value { result ≡ order (modulus arithmetic.now) }
+    requires whole { 2 ^ (W.modulus arithmetic.now - 1) % W.modulus arithmetic.now ≡ 1 }
+    ensures value { result ≡ order (W.modulus arithmetic.now) }
 {
     let whole = arithmetic.modulus() - 1;
     let mut least = whole;
@@ -37,8 +37,8 @@ fn order_of_two<W: Arithmetic>(arithmetic: &W) -> u32
 
 // The length of a row: half the order where that is even, else the order.
 pub(crate) fn row_length<W: Arithmetic>(arithmetic: &W) -> u32
-    requires whole { 2 ^ (modulus arithmetic.now - 1) % modulus arithmetic.now ≡ 1 }
-    ensures value { result ≡ row_length_of (modulus arithmetic.now) }
+    requires whole { 2 ^ (W.modulus arithmetic.now - 1) % W.modulus arithmetic.now ≡ 1 }
+    ensures value { result ≡ row_length_of (W.modulus arithmetic.now) }
 {
     let order = order_of_two(arithmetic);
     if order % 2 == 0 { order / 2 } else { order }

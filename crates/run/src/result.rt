@@ -11,7 +11,7 @@ pub(crate) fn direct_result<W: Arithmetic>(
     generator: u32,
     sum: u32,
 ) -> u32
-    ensures value { result ≡ 2 * index * sum * inverse (modulus arithmetic.now) (minus (modulus arithmetic.now) 1 (generator ^ index)) % modulus arithmetic.now }
+    ensures value { result ≡ 2 * index * sum * inverse (W.modulus arithmetic.now) (minus (W.modulus arithmetic.now) 1 (generator ^ index)) % W.modulus arithmetic.now }
 {
     let power = raise(arithmetic, arithmetic.bring_in(generator), index);
     let divisor = arithmetic.sub(arithmetic.bring_in(1), power);
@@ -22,7 +22,7 @@ pub(crate) fn direct_result<W: Arithmetic>(
 
 // k·S/(2(2^(−k) − 1))
 pub(crate) fn doubling_result<W: Arithmetic>(arithmetic: &W, index: u32, sum: u32) -> u32
-    ensures value { result ≡ index * sum * inverse (modulus arithmetic.now) (2 * minus (modulus arithmetic.now) (inverse (modulus arithmetic.now) (2 ^ index)) 1) % modulus arithmetic.now }
+    ensures value { result ≡ index * sum * inverse (W.modulus arithmetic.now) (2 * minus (W.modulus arithmetic.now) (inverse (W.modulus arithmetic.now) (2 ^ index)) 1) % W.modulus arithmetic.now }
 {
     let two = arithmetic.bring_in(2);
     let power = raise(arithmetic, two, index);

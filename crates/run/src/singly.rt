@@ -9,7 +9,7 @@ use arithmetic::Arithmetic;
 
 impl Run {
     pub(crate) fn take_singly<W: Arithmetic>(&mut self, arithmetic: &W, terms: u32)
-        requires same { modulus arithmetic.now ≡ self.old.modulus }
+        requires same { W.modulus arithmetic.now ≡ self.old.modulus }
         requires room { terms ≤ left_of self.old }
         ensures stands { Stands self.new (kind_of self.old.progress) self.old.index self.old.modulus self.old.generator (self.old.taken + terms) }
     {

@@ -20,10 +20,10 @@ pub(crate) fn take_stretch<W: Arithmetic>(
     from: Stretch<W::Element>,
     terms: u32,
 ) -> Stretch<W::Element>
-    requires below { from.point < modulus arithmetic.now }
-    ensures sum { residue arithmetic.now result.sum ≡ (residue arithmetic.now from.sum + stretch (modulus arithmetic.now) (residue arithmetic.now ratio) from.point (residue arithmetic.now from.weight) terms) % modulus arithmetic.now }
-    ensures point { result.point ≡ 2 ^ terms * from.point % modulus arithmetic.now }
-    ensures weight { residue arithmetic.now result.weight ≡ residue arithmetic.now from.weight * residue arithmetic.now ratio ^ terms % modulus arithmetic.now }
+    requires below { from.point < W.modulus arithmetic.now }
+    ensures sum { W.residue arithmetic.now result.sum ≡ (W.residue arithmetic.now from.sum + stretch (W.modulus arithmetic.now) (W.residue arithmetic.now ratio) from.point (W.residue arithmetic.now from.weight) terms) % W.modulus arithmetic.now }
+    ensures point { result.point ≡ 2 ^ terms * from.point % W.modulus arithmetic.now }
+    ensures weight { W.residue arithmetic.now result.weight ≡ W.residue arithmetic.now from.weight * W.residue arithmetic.now ratio ^ terms % W.modulus arithmetic.now }
 {
     let p = arithmetic.modulus();
     let mut sum = from.sum;

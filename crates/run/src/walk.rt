@@ -16,9 +16,9 @@ use theory::Kind;
 
 impl Run {
     pub(crate) fn rows<W: Arithmetic>(&self, arithmetic: &W, row_length: u32) -> Rows<W::Element>
-        requires same { modulus arithmetic.now ≡ self.now.modulus }
+        requires same { W.modulus arithmetic.now ≡ self.now.modulus }
         requires length { row_length ≡ row_length_of self.now.modulus }
-        ensures rows { RowsOf (residue arithmetic.now) self.now.modulus self.now.generator self.now.index result }
+        ensures rows { RowsOf (W.residue arithmetic.now) self.now.modulus self.now.generator self.now.index result }
     {
         let exponent = self.index - 1;
         let ratio = raise(arithmetic, arithmetic.bring_in(2), exponent);
@@ -40,12 +40,12 @@ impl Run {
         arithmetic: &W,
         from: DoublingPlace,
     ) -> Walk<W::Element>
-        requires same { modulus arithmetic.now ≡ self.now.modulus }
+        requires same { W.modulus arithmetic.now ≡ self.now.modulus }
         requires place { self.now.progress ≡ Progress.Doubling from }
-        ensures walking { Walking (residue arithmetic.now) self.now.modulus self.now.generator self.now.index result }
+        ensures walking { Walking (W.residue arithmetic.now) self.now.modulus self.now.generator self.now.index result }
         ensures inside { result.place < row_length_of self.now.modulus }
         ensures taken { result.taken ≡ self.now.taken }
-        ensures sum { residue arithmetic.now result.next.sum ≡ doubling_sum self.now.modulus self.now.generator self.now.index self.now.taken }
+        ensures sum { W.residue arithmetic.now result.next.sum ≡ doubling_sum self.now.modulus self.now.generator self.now.index self.now.taken }
     {
         Walk {
             taken: self.taken,
@@ -68,15 +68,15 @@ impl Run {
         walk: Walk<W::Element>,
         terms: u32,
     ) -> Walk<W::Element>
-        requires same { modulus arithmetic.now ≡ self.now.modulus }
-        requires rows { RowsOf (residue arithmetic.now) self.now.modulus self.now.generator self.now.index rows.now }
-        requires walking { Walking (residue arithmetic.now) self.now.modulus self.now.generator self.now.index walk }
+        requires same { W.modulus arithmetic.now ≡ self.now.modulus }
+        requires rows { RowsOf (W.residue arithmetic.now) self.now.modulus self.now.generator self.now.index rows.now }
+        requires walking { Walking (W.residue arithmetic.now) self.now.modulus self.now.generator self.now.index walk }
         requires room { walk.place + terms ≤ row_length_of self.now.modulus }
         requires few { walk.taken + terms ≤ terms_of self.now.modulus }
-        ensures walking { Walking (residue arithmetic.now) self.now.modulus self.now.generator self.now.index result }
+        ensures walking { Walking (W.residue arithmetic.now) self.now.modulus self.now.generator self.now.index result }
         ensures taken { result.taken ≡ walk.taken + terms }
         ensures place { result.place ≡ walk.place + terms }
-        ensures sum { Grows self.now.modulus self.now.generator self.now.index walk.taken terms (residue arithmetic.now walk.next.sum) (residue arithmetic.now result.next.sum) }
+        ensures sum { Grows self.now.modulus self.now.generator self.now.index walk.taken terms (W.residue arithmetic.now walk.next.sum) (W.residue arithmetic.now result.next.sum) }
     {
         Walk {
             taken: walk.taken + terms,
@@ -94,10 +94,10 @@ impl Run {
         rows: &Rows<W::Element>,
         walk: Walk<W::Element>,
     ) -> Walk<W::Element>
-        requires same { modulus arithmetic.now ≡ self.now.modulus }
-        requires rows { RowsOf (residue arithmetic.now) self.now.modulus self.now.generator self.now.index rows.now }
-        requires walking { Walking (residue arithmetic.now) self.now.modulus self.now.generator self.now.index walk }
-        ensures walking { Walking (residue arithmetic.now) self.now.modulus self.now.generator self.now.index result }
+        requires same { W.modulus arithmetic.now ≡ self.now.modulus }
+        requires rows { RowsOf (W.residue arithmetic.now) self.now.modulus self.now.generator self.now.index rows.now }
+        requires walking { Walking (W.residue arithmetic.now) self.now.modulus self.now.generator self.now.index walk }
+        ensures walking { Walking (W.residue arithmetic.now) self.now.modulus self.now.generator self.now.index result }
         ensures taken { result.taken ≡ walk.taken }
         ensures sum { result.next.sum ≡ walk.next.sum }
         ensures place { result.place ≡ walk.place % row_length_of self.now.modulus }
@@ -127,13 +127,13 @@ impl Run {
         row_length: u32,
         walk: Walk<W::Element>,
     )
-        requires same { modulus arithmetic.now ≡ self.old.modulus }
+        requires same { W.modulus arithmetic.now ≡ self.old.modulus }
         requires length { row_length ≡ row_length_of self.old.modulus }
         requires kind { kind_of self.old.progress ≡ Kind.Doubling }
-        requires walking { Walking (residue arithmetic.now) self.old.modulus self.old.generator self.old.index walk }
+        requires walking { Walking (W.residue arithmetic.now) self.old.modulus self.old.generator self.old.index walk }
         requires room { walk.place < row_length_of self.old.modulus }
         requires few { walk.taken ≤ terms_of self.old.modulus }
-        requires sum { residue arithmetic.now walk.next.sum ≡ doubling_sum self.old.modulus self.old.generator self.old.index walk.taken }
+        requires sum { W.residue arithmetic.now walk.next.sum ≡ doubling_sum self.old.modulus self.old.generator self.old.index walk.taken }
         ensures stands { Stands self.new Kind.Doubling self.old.index self.old.modulus self.old.generator walk.taken }
     {
         let next = walk.next;

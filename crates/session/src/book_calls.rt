@@ -22,7 +22,7 @@ impl State {
         mut cells: Vec<u64>,
         terms: u32,
     ) -> Answer
-        ensures turn { Turn self.old self.new (CountOn number (vec_len cells) (W.Arithmetic.modulus arithmetic.now) (D.DigitSource.modulus source) terms) result }
+        ensures turn { Turn self.old self.new (CountOn number (vec_len cells) (W.modulus arithmetic.now) (D.DigitSource.modulus source) terms) result }
     {
         self.count_on(number, arithmetic, &mut source, cells.as_mut_slice(), terms)
     }
@@ -30,7 +30,7 @@ impl State {
     // Makes one call.
     fn make<W: Arithmetic + Drop, D: DigitSource + Drop>(&mut self, call: BookCall<W, D>) -> Answer
         requires room { vec_len self.old.runs < vec_capacity self.old.runs }
-        ensures turn { Turn self.old self.new (book_deed W.Arithmetic.modulus D.DigitSource.modulus call) result }
+        ensures turn { Turn self.old self.new (book_deed W.modulus D.DigitSource.modulus call) result }
     {
         match call {
             BookCall::Open { kind, modulus } => self.open_run(kind, modulus),
@@ -63,7 +63,7 @@ pub(crate) fn make_book_calls<W: Arithmetic + Drop, D: DigitSource + Drop>(
 )
     requires runs { vec_len state.old.runs + vec_len calls ≤ vec_capacity state.old.runs }
     requires room { vec_len answers.old + vec_len calls ≤ vec_capacity answers.old }
-    ensures went { Went (book state.old.book) state.old.runs.items (book state.new.book) state.new.runs.items (map (book_deed W.Arithmetic.modulus D.DigitSource.modulus) calls.items) answers.old.items answers.new.items }
+    ensures went { Went (book state.old.book) state.old.runs.items (book state.new.book) state.new.runs.items (map (book_deed W.modulus D.DigitSource.modulus) calls.items) answers.old.items answers.new.items }
 {
     for call in calls {
         answers.push_reserved(state.make(call));

@@ -40,7 +40,7 @@ impl State {
     }
 
     pub(crate) fn finish<W: Arithmetic>(&mut self, number: usize, arithmetic: &W) -> Answer
-        ensures turn { Turn self.old self.new (Finish number (modulus arithmetic.now)) result }
+        ensures turn { Turn self.old self.new (Finish number (W.modulus arithmetic.now)) result }
     {
         let Some(run) = take_open(&mut self.runs, number) else {
             return Answer::NotMade;

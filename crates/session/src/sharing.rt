@@ -26,7 +26,7 @@ impl State {
         arithmetic: &W,
         terms: u32,
     ) -> Answer
-        ensures turn { Turn self.old self.new (CarryOn number (modulus arithmetic.now) terms) result }
+        ensures turn { Turn self.old self.new (CarryOn number (W.modulus arithmetic.now) terms) result }
     {
         let Some(mut run) = take_open(&mut self.runs, number) else {
             return Answer::NotMade;
@@ -44,7 +44,7 @@ impl State {
         cells: &mut [u64],
         terms: u32,
     ) -> Answer
-        ensures turn { Turn self.old self.new (CountOn number (length cells.old) (W.Arithmetic.modulus arithmetic.now) (D.DigitSource.modulus source.old) terms) result }
+        ensures turn { Turn self.old self.new (CountOn number (length cells.old) (W.modulus arithmetic.now) (D.DigitSource.modulus source.old) terms) result }
     {
         let Some(mut run) = take_open(&mut self.runs, number) else {
             return Answer::NotMade;

@@ -21,7 +21,7 @@ pub fn work<W: Arithmetic + Drop, D: DigitSource + Drop>(
     first: &[ListingCall],
     then: Vec<BookCall<W, D>>,
 ) -> Result<Vec<Answer>, AllocError>
-    ensures law { IfOk result (λ answers. Answered (deeds W.Arithmetic.modulus D.DigitSource.modulus first.now then.items) answers.items) }
+    ensures law { IfOk result (λ answers. Answered (deeds W.modulus D.DigitSource.modulus first.now then.items) answers.items) }
 {
     let Some(count) = first.len().checked_add(then.len()) else {
         return Err(AllocError);

@@ -22,7 +22,7 @@ pub fn work_run(mut run: Run) -> FinishedResidue
 
 // Takes all terms left, a doubling run's by counting.
 fn take_all<W: Arithmetic>(run: &mut Run, arithmetic: &W)
-    requires same { modulus arithmetic.now ≡ run.old.modulus }
+    requires same { W.modulus arithmetic.now ≡ run.old.modulus }
     ensures stands { Stands run.new (kind_of run.old.progress) run.old.index run.old.modulus run.old.generator (terms_of run.old.modulus) }
 {
     match run.kind() {
@@ -33,7 +33,7 @@ fn take_all<W: Arithmetic>(run: &mut Run, arithmetic: &W)
 
 // Takes all terms left one by one.
 fn carry_to_end<W: Arithmetic>(run: &mut Run, arithmetic: &W)
-    requires same { modulus arithmetic.now ≡ run.old.modulus }
+    requires same { W.modulus arithmetic.now ≡ run.old.modulus }
     ensures stands { Stands run.new (kind_of run.old.progress) run.old.index run.old.modulus run.old.generator (terms_of run.old.modulus) }
 {
     while run.left() > 0 {
@@ -43,7 +43,7 @@ fn carry_to_end<W: Arithmetic>(run: &mut Run, arithmetic: &W)
 
 // Takes all terms left of a doubling run, counted in groups.
 fn count_to_end<W: Arithmetic>(run: &mut Run, arithmetic: &W)
-    requires same { modulus arithmetic.now ≡ run.old.modulus }
+    requires same { W.modulus arithmetic.now ≡ run.old.modulus }
     requires kind { kind_of run.old.progress ≡ Kind.Doubling }
     ensures stands { Stands run.new Kind.Doubling run.old.index run.old.modulus run.old.generator (terms_of run.old.modulus) }
 {

@@ -25,11 +25,11 @@ loop-u-preserved g c r powers =
     c.bring_in-term.ensures.value ∙ ap (λ (n : ℕ). n % m) (powers u c.loop-u-test.true) ∙ mod-mod (r ^ u) m in
     elim c.if-number-u-eq1.branch [
       | then-number-u-eq1 way ↦
-          ap (λ (e : g.row.W-Element.Denot). w.residue a e) way.sum_is
+          ap (λ (e : g.row.W-Element.Denot). w.residue a e) way.sum-is
           ∙ sign_minus m r 8 number u (w.residue a c.loop-u.sum) (w.residue a c.bring_in-term.result) _ (omega (arith, (g.met.W.Arithmetic.fit a).1))
           (sym bit ∙ way.if-number-u-eq1.true) (c.loop-u.invariant r powers) term way.sub-sum.ensures.value
       | else-number-u-eq1 way ↦
-          ap (λ (e : g.row.W-Element.Denot). w.residue a e) way.sum_is
+          ap (λ (e : g.row.W-Element.Denot). w.residue a e) way.sum-is
           ∙ sign_plus m r 8 number u (w.residue a c.loop-u.sum) (w.residue a c.bring_in-term.result) _
           (omega (arith, bit, way.if-number-u-eq1.false)) (c.loop-u.invariant r powers) term way.add-sum.ensures.value
     ]

@@ -36,11 +36,11 @@ loop-i-preserved g c =
     elim c.if-double-p.branch [
       | then-double-p way ↦
           along_as m r s₀ x₀ v₀ (n + 1) ((s + v) % m) (2 * x) (v * r % m) _ _ _
-          (ap (λ (e : g.row.W-Element.Denot). w.residue a e) way.sum_is ∙ c.add-plus.ensures.value) way.point_is c.mul-weight.ensures.value
+          (ap (λ (e : g.row.W-Element.Denot). w.residue a e) way.sum-is ∙ c.add-plus.ensures.value) way.point-is c.mul-weight.ensures.value
           (along_low m r s₀ x₀ v₀ n s x v c.loop-i.invariant (omega (arith, way.if-double-p.true, modulus)))
       | else-double-p way ↦
           along_as m r s₀ x₀ v₀ (n + 1) (minus m s v) (2 * x - m) (v * r % m) _ _ _
-          (ap (λ (e : g.row.W-Element.Denot). w.residue a e) way.sum_is ∙ c.sub-minus.ensures.value) (way.point_is ∙ ap (λ (k : ℕ). 2 * x - k) modulus) c.mul-weight.ensures.value
+          (ap (λ (e : g.row.W-Element.Denot). w.residue a e) way.sum-is ∙ c.sub-minus.ensures.value) (way.point-is ∙ ap (λ (k : ℕ). 2 * x - k) modulus) c.mul-weight.ensures.value
           (along_high m r s₀ x₀ v₀ n s x v c.loop-i.invariant (along_under m r s₀ x₀ v₀ n s x v positive c.loop-i.invariant) (omega (arith, way.if-double-p.false, modulus)))
     ]
 
