@@ -1,5 +1,6 @@
 // Listings of pairs, and the books that they are released as.
 #![tactic(auto)]
+
 mod book;
 mod listing;
 mod shown;

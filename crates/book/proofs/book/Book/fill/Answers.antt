@@ -20,11 +20,9 @@ invariant_of-self c =
     let n = c.in-Ok.number in
     let a = c.in-Ok.ensures.admitted in
     let found = (number_place t.records f.modulus n a.1).2 in
-    let alike = filling t f.index f.modulus f.generator (get_or t.records (n - 1) (head 0)) found a.0 in (
-      finished_worked t f.kind f.index f.modulus f.generator c.residue.result n (get_or t.records (n - 1) (head 0)) a.1 found alike.0 alike.1 f.usable c.residue.ensures.result
-          c.fill.result (contents c.fill.new.self) c.fill.ensures.after c.args.self.now.worked,
-      tt,
-    )
+    let alike = filling t f.index f.modulus f.generator (get_or t.records (n - 1) (head 0)) found a.0 in record {
+      worked = finished_worked t f.kind f.index f.modulus f.generator c.residue.result n (get_or t.records (n - 1) (head 0)) a.1 found alike.0 alike.1 f.usable c.residue.ensures.result c.fill.result (contents c.fill.new.self) c.fill.ensures.after c.args.self.now.worked;
+    }
 
 -- the record that was found takes the residue
 takes : (t : Contents) (kind : Kind) (k p g v n : ℕ) → number_of t.records p ≡ Some n → first_cause (fill_causes t k p g) ≡ None

@@ -4,7 +4,7 @@ use Rattle.table.specs.declared.pair.Record.{Record}
 use Rattle.table.specs.Chain.{head}
 use Rattle.book.specs.Books.{filled_count}
 use Rattle.book.proofs.book.filled.count_filled.Goals as goal
-use Rattle.book.proofs.book.filled.count_filled.Goals.{then-is-some, else-is-some}
+use Rattle.book.proofs.book.filled.count_filled.Goals.{then-is_some, else-is_some}
 
 step : (rs : List Record) (i : ℕ) → i < length rs → filled_count (drop i rs) ≡ cond (is_some (get_or rs i (head 0)).residue) 1 0 + filled_count (drop (i + 1) rs)
 unfolding filled_count
@@ -20,10 +20,10 @@ loop-record-preserved c =
     let i = c.loop-record.record-index in
     let more = step rs i c.loop-record-test.true in
     elim c.if-is_some.branch [
-      | then-is-some w ↦
+      | then-is_some w ↦
           let e = more ∙ ap (λ (b : Bool). cond b 1 0 + filled_count (drop (c.loop-record.record-index + 1) c.args.records.now)) (sym w.if-is_some.ensures) in
           (omega (arith, e, w.filled-is, c.loop-record.invariant.0), omega (arith, w.filled-is, c.loop-record.invariant.1))
-      | else-is-some w ↦
+      | else-is_some w ↦
           let e = more ∙ ap (λ (b : Bool). cond b 1 0 + filled_count (drop (c.loop-record.record-index + 1) c.args.records.now)) (sym w.if-is_some.ensures) in
           (omega (arith, e, w.filled-is, c.loop-record.invariant.0), omega (arith, w.filled-is, c.loop-record.invariant.1))
     ]

@@ -5,7 +5,9 @@ use Rattle.book.proofs.listing.Listing.read.Goals as goal
 
 pub invariant_of-self : goal.invariant_of-self
 invariant_of-self c =
-    (read_waits c.args.bytes.now (contents c.read.new.table) c.read.result c.read.ensures.answer c.read.ensures.after, tt)
+    record {
+      waiting = read_waits c.args.bytes.now (contents c.read.new.table) c.read.result c.read.ensures.answer c.read.ensures.after;
+    }
 
 pub returns : goal.returns
 returns c =
@@ -14,7 +16,7 @@ returns c =
     record {
       answer = c.read.ensures.answer;
       after = c.read.ensures.after;
-      written = written_again xs after c.read.result (λ i. (c.type-inv.bytes i).fits) c.read.ensures.answer c.read.ensures.after;
+      written = written_again xs after c.read.result (λ i. (c.type_inv.bytes i).fits) c.read.ensures.answer c.read.ensures.after;
       found =
           λ l same.
           let t = l.table in
