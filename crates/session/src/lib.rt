@@ -1,5 +1,6 @@
 // A session: a list of calls, made on one new listing, and their answers.
 #![tactic(auto)]
+
 mod answer;
 mod book_calls;
 mod booking;

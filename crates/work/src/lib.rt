@@ -1,5 +1,6 @@
 // The work on one record: a run of its pair carried to its end, and the line that it gives.
 #![tactic(auto)]
+
 mod records;
 mod whole;
 

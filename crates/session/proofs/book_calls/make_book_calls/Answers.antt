@@ -12,7 +12,7 @@ use Rattle.session.proofs.book_calls.make_book_calls.Goals as goal
 pub loop-call-init : goal.loop-call-init
 loop-call-init g c =
     let s = c.args.state.now in
-    let becomes = c.into-iter-call-iterator.ensures.into-iter-gives in
+    let becomes = c.into_iter-call-iterator.ensures.into_iter_gives in
     (tt, tt, refl, went_none (book s.book) (vec_items s.runs) (vec_items c.args.answers.now), omega (arith, becomes.1, c.requires.room), omega (arith, becomes.1, c.requires.runs))
 
 pub make-requires : goal.make-requires
@@ -55,7 +55,7 @@ returns g c =
     let rest : Calls = into_iter_items c.loop-call.call-iterator in
     let none : rest ≡ [] = nothing_left rest (omega (arith, steps.0, c.loop-call.call-iterator.rest.ok.0)) in
     let all : c.loop-call.yielded ≡ vec_items c.args.calls =
-    sym (append-nil c.loop-call.yielded) ∙ ap (λ (l : Calls). c.loop-call.yielded ++ l) (sym none) ∙ sym inv.2 ∙ c.into-iter-call-iterator.ensures.into-iter-gives.0
+    sym (append-nil c.loop-call.yielded) ∙ ap (λ (l : Calls). c.loop-call.yielded ++ l) (sym none) ∙ sym inv.2 ∙ c.into_iter-call-iterator.ensures.into_iter_gives.0
     in
     record {
       went = subst (λ (l : Calls). Went (book s.book) (vec_items s.runs) (book c.loop-call.state.book) (vec_items c.loop-call.state.runs) (map deed l) (vec_items c.args.answers.now) (vec_items c.loop-call.answers)) all inv.3;

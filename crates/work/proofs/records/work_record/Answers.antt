@@ -8,7 +8,7 @@ use Rattle.work.proofs.Working.{worked, filled_already, stays}
 use Rattle.work.proofs.records.work_record.Goals as goal
 
 -- nothing is told and nothing changed
-unworked : (c : goal.In-default) → WorkedAt (book c.args.book.now) (book c.args.book.now) (waiting_at (book c.args.book.now) c.args.position) None
+unworked : (c : goal.In_default) → WorkedAt (book c.args.book.now) (book c.args.book.now) (waiting_at (book c.args.book.now) c.args.position) None
 unworked c =
     let b = c.args.book.now in
     let t = book b in

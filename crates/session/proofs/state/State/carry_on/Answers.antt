@@ -41,8 +41,8 @@ returns g c =
             (λ q. refl) (λ h. refl)
             (λ h at. carry_causes_are h n (kind_of run.progress) run.index run.modulus run.generator run.taken at (g.W.Arithmetic.modulus c.args.arithmetic.now) c.args.terms)
             (λ h a e. e)
-            c.carry_on.new.self c.carry_on.result (vec_items c.take_open.new.runs) (vec_items c.put.new.runs) c.share_answer.result
-            taken.1 c.put.ensures.items c.share_answer.ensures.value c.carry_on.ensures.shared;
+            c.carry_on.new.self c.carry_on.result (vec_items c.take_open.new.runs) (vec_items c.put.new.runs) c.share-answer.result
+            taken.1 c.put.ensures.items c.share-answer.ensures.value c.carry_on.ensures.shared;
         capacity = c.put.ensures.capacity ∙ c.take_open.ensures.capacity;
         few = omega (arith, c.put.ensures.len, c.take_open.ensures.len);
       };

@@ -41,8 +41,8 @@ returns g c =
             (λ q. refl) (λ h. refl)
             (λ h at. count_causes_are h n (kind_of run.progress) run.index run.modulus run.generator run.taken at (length c.args.cells.now) (g.W.Arithmetic.modulus c.args.arithmetic.now) (g.D.DigitSource.modulus c.args.source.now) c.args.terms)
             (λ h a e. e)
-            c.count_on.new.self c.count_on.result (vec_items c.take_open.new.runs) (vec_items c.put.new.runs) c.share_answer.result
-            taken.1 c.put.ensures.items c.share_answer.ensures.value c.count_on.ensures.shared;
+            c.count_on.new.self c.count_on.result (vec_items c.take_open.new.runs) (vec_items c.put.new.runs) c.share-answer.result
+            taken.1 c.put.ensures.items c.share-answer.ensures.value c.count_on.ensures.shared;
         capacity = c.put.ensures.capacity ∙ c.take_open.ensures.capacity;
         few = omega (arith, c.put.ensures.len, c.take_open.ensures.len);
       };
