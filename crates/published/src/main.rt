@@ -1,5 +1,6 @@
 // Published Bernoulli numbers against the library: every value modulo several primes, by every way that there is.
 #![tactic(auto)]
+
 mod extremes;
 mod numeral;
 mod stop;

@@ -2,7 +2,7 @@
 use arithmetic::Refusal;
 use std::io;
 
-#[derive(Drop)]
+#[derive(Debug, Drop)]
 pub enum Stop {
     // a way gave another residue than the published one
     Disagreement,

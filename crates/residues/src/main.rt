@@ -1,6 +1,7 @@
 // The residues of one book, which is read from standard input: the line of each record is written to standard output as
 // soon as the record is worked, in rising order of modulus. A book that is refused gives one line that says why.
 #![tactic(auto)]
+
 mod input;
 mod output;
 mod stop;

@@ -1,5 +1,6 @@
 // A walk through the calls on runs: each run is opened, carried on share by share, told of after each, and finished.
 #![tactic(auto)]
+
 mod runs;
 mod shown;
 mod stop;

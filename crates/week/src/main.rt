@@ -1,5 +1,6 @@
 // The week of a book, read off one session: every call that is made, with its answer.
 #![tactic(auto)]
+
 mod asked;
 mod brought;
 mod calls;

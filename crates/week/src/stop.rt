@@ -3,7 +3,7 @@ use arithmetic::Refusal;
 use std::alloc::AllocError;
 use std::io;
 
-#[derive(Drop)]
+#[derive(Debug, Drop)]
 pub enum Stop {
     Refused(Refusal),
     Memory(AllocError),
