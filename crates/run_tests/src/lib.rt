@@ -1,5 +1,6 @@
 // Tests of runs: what worked pairs give, what is refused and what a refusal leaves, and shares of every size.
 #![tactic(auto)]
+
 #[cfg(test)]
 mod calls;
 #[cfg(test)]
