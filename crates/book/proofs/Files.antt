@@ -1,7 +1,7 @@
 -- Reading: what is read waits, was written so, and is found again.
 -- Main statements: read_waits, written_again, found_again.
 -- Assumes nothing.
-use Rattle.std.proofs.Common.{◌≡◌, ℕ, ◌≤◌, true, false, cond, List, length, is_ok, Some, None, Ok, Err, Option, Result, sym, refl, ap, ◌∙◌, subst, arith}
+use Rattle.std.proofs.Common.{◌≡◌, ℕ, ◌≤◌, true, cond, List, length, is_ok, Some, None, Ok, Err, Result, sym, refl, ap, ◌∙◌, subst, arith}
 use Rattle.std.specs.Result.{result_err}
 use Rattle.file.specs.Layout.{encode}
 use Rattle.file.specs.Reading.{decode, read_tests}

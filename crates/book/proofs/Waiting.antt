@@ -1,7 +1,7 @@
 -- Tables in which every record waits.
 -- Main statements: empty_waits, begun_waits, entered_waits.
 -- Assumes nothing.
-use Rattle.std.proofs.Common.{◌≡◌, ℕ, Bool, true, false, cond, Ok, Err, Result, sym, refl, ap, ◌∙◌, subst}
+use Rattle.std.proofs.Common.{◌≡◌, ℕ, Bool, true, false, cond, Ok, Err, Result, sym, refl, ap, subst}
 use Rattle.arithmetic.specs.declared.refusal.Refusal.{Refusal}
 use Rattle.table.specs.Chain.{Contents, every}
 use Rattle.table.specs.Entering.{Entered}

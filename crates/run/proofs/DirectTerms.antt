@@ -1,14 +1,13 @@
 -- A direct run, term by term: where it stands, and one term further.
 -- Main statements: standing_from_progress, next_term, progress_from_standing.
 -- Assumes nothing.
-use Rattle.std.proofs.Common.{◌≡◌, ℕ, ◌+◌, ◌-◌, ◌*◌, ◌/◌, ◌%◌, ◌^◌, ◌<◌, ◌≤◌, sym, ap, ◌∙◌, subst, ap₂, add_assoc, mod-eq_of_lt, arith}
+use Rattle.std.proofs.Common.{◌≡◌, ℕ, ◌+◌, ◌-◌, ◌*◌, ◌/◌, ◌%◌, ◌^◌, ◌<◌, sym, ap, ◌∙◌, mod-eq_of_lt, arith}
 use Rattle.theory.specs.declared.kind.Kind.TheVariants.{Direct}
 use Rattle.theory.specs.Direct.{direct_point, direct_quotient, direct_weight, direct_term, direct_sum, half_below}
 use Rattle.theory.specs.Kinds.{partial_sum}
 use Rattle.theory.specs.Residues.{minus}
 use Rattle.theory.proofs.Modular.{mul-mod, minus-mod, direct_point_step, direct_quotient_is, direct_weight_step, direct_term_is, direct_sum_step, direct_sum_under, direct_weight_under}
 use Rattle.run.specs.declared.progress.DirectPlace.{DirectPlace}
-use Rattle.run.specs.declared.progress.Progress.{Progress}
 use Rattle.run.specs.declared.progress.Progress.TheVariants.{Direct as AtDirect}
 use Rattle.run.specs.Places.{direct_place, progress_after}
 

@@ -2,7 +2,7 @@
 -- Main statements: weighed_deposit, sign_sum_stretch, stretch_add, counted_none, counted_more, weighed_zeroes,
 -- gathering_more, groups_step.
 -- Assumes nothing.
-use Rattle.std.proofs.Common.{◌≡◌, ℕ, zero, suc, ◌+◌, ◌-◌, ◌*◌, ◌/◌, ◌%◌, ◌^◌, ◌<◌, ◌≤◌, min, ◌≢◌, List, length, get_or, set, sym, refl, ap, ◌∙◌, subst, ap₂, inl, inr, add-zero, add_assoc, mul-le-mul_right, mod-lt, mod-eq_of_lt, mul-le-mul, one-mul, mul-zero, zero-mul, mul-one, arith, length-set, get_or-set_other, get_or-set_same, pow-add}
+use Rattle.std.proofs.Common.{◌≡◌, ℕ, zero, suc, ◌+◌, ◌-◌, ◌*◌, ◌/◌, ◌%◌, ◌^◌, ◌<◌, ◌≤◌, min, ◌≢◌, List, length, get_or, set, sym, ap, ◌∙◌, subst, ap₂, inl, inr, add-zero, add_assoc, mul-le-mul_right, mod-lt, mod-eq_of_lt, mul-le-mul, one-mul, mul-zero, zero-mul, mul-one, arith, length-set, get_or-set_other, get_or-set_same, pow-add}
 use native.Mathlib.Nat.{add-mod, pow-zero, zero-div, zero-mod, div-eq_of_lt, div-eq-sub-div, mod-eq-sub-mod, mod_self}
 use native.Mathlib.Decide.{ℕ_discrete, dec_lt}
 use Rattle.digits.specs.Counts.{capped}

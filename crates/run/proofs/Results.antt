@@ -1,7 +1,7 @@
 -- The two results, as an arithmetic of modulus m works them.
 -- Main statements: direct_result_worked, doubling_result_worked.
 -- Assumes nothing.
-use Rattle.std.proofs.Common.{◌≡◌, ℕ, ◌+◌, ◌-◌, ◌*◌, ◌%◌, ◌^◌, sym, ap, ◌∙◌, ap₂}
+use Rattle.std.proofs.Common.{◌≡◌, ℕ, ◌+◌, ◌-◌, ◌*◌, ◌%◌, ◌^◌, ap, ◌∙◌, ap₂}
 use native.Mathlib.Nat.{mod-mod}
 use Rattle.theory.specs.Residues.{minus, inverse}
 use Rattle.theory.proofs.Modular.{mul-mod, mul_mod_left, pow-mod, minus-mod, inverse-mod}

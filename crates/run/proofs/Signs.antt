@@ -1,7 +1,7 @@
 -- Sign sums digit by digit, and cells one by one, as an arithmetic works them.
 -- Main statements: bit-of-digit, sign_plus, sign_minus, cell_more.
 -- Assumes nothing.
-use Rattle.std.proofs.Common.{◌≡◌, ℕ, ◌+◌, ◌-◌, ◌*◌, ◌/◌, ◌%◌, ◌^◌, ◌<◌, List, get_or, sym, refl, ap, ◌∙◌, ap₂, arith}
+use Rattle.std.proofs.Common.{◌≡◌, ℕ, ◌+◌, ◌-◌, ◌*◌, ◌%◌, ◌^◌, ◌<◌, List, get_or, sym, ap, ◌∙◌, ap₂}
 use native.Mathlib.Nat.{mod-mod, zero-mod}
 use lib.Bits.{bit_and}
 use Rattle.std.proofs.lemmas.Nat.{and_mask}
@@ -10,7 +10,7 @@ use Rattle.theory.specs.Residues.{minus, signed}
 use Rattle.theory.specs.Sums.{sum}
 use Rattle.theory.proofs.Modular.{mul-mod, add_negative, sum_step}
 use Rattle.theory.proofs.Sums.{sum_zero}
-use Rattle.run.specs.Counting.{sign_sum, weighed}
+use Rattle.run.specs.Counting.{sign_sum}
 
 -- the lowest bit of a number that is shifted
 pub bit_of : (n : ℕ) → bit_and n 1 ≡ n % 2

@@ -1,8 +1,8 @@
 -- A stretch of a row, term by term.
 -- Main statements: stretch_none, stretch_more, along_none, along_low, along_high.
 -- Assumes nothing.
-use Rattle.std.proofs.Common.{◌≡◌, ℕ, ◌+◌, ◌-◌, ◌*◌, ◌/◌, ◌%◌, ◌^◌, ◌<◌, ◌≤◌, sym, refl, ap, ◌∙◌, ap₂, add-zero, add_assoc, mod-lt, mod-eq_of_lt, mul_assoc, one-mul, pow-suc, mul-one, add-one, arith}
-use native.Mathlib.Nat.{mod-add-mod, pow-zero, pow-succ', div-eq_of_lt, div-eq_of_lt-le}
+use Rattle.std.proofs.Common.{◌≡◌, ℕ, ◌+◌, ◌-◌, ◌*◌, ◌/◌, ◌%◌, ◌^◌, ◌<◌, ◌≤◌, sym, ap, ◌∙◌, add-zero, add_assoc, mod-lt, mod-eq_of_lt, one-mul, pow-suc, mul-one, add-one, arith}
+use native.Mathlib.Nat.{mod-add-mod, pow-zero, pow-succ', div-eq_of_lt}
 use Rattle.theory.specs.Residues.{minus, signed}
 use Rattle.theory.specs.Sums.{sum}
 use Rattle.theory.proofs.Sums.{sum_suc, sum_zero}

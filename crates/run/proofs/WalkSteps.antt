@@ -8,7 +8,6 @@ use Rattle.theory.specs.Doubling.{row_length_of, doubling_point, doubling_weight
 use Rattle.theory.specs.Kinds.{partial_sum}
 use Rattle.theory.proofs.Modular.{doubling_point_places, doubling_point_row, doubling_weight_row, doubling_weight_under, doubling_sum_under}
 use Rattle.run.specs.declared.progress.DoublingPlace.{DoublingPlace}
-use Rattle.run.specs.declared.progress.Progress.{Progress}
 use Rattle.run.specs.declared.progress.Progress.TheVariants.{Doubling as AtDoubling}
 use Rattle.run.specs.declared.rows.Walk.{Walk}
 use Rattle.run.specs.declared.state.Run.{Run}

@@ -18,7 +18,7 @@ use Rattle.book.specs.Worked.{record_of, generator_of, residue_in, residue_for}
 use Rattle.book.proofs.Lookups.{listed_record, listed_generator, entered_same, entered_new, entered_length}
 use Rattle.session.specs.declared.answer.Answer.TheVariants.{Done, Refused}
 use Rattle.session.specs.Events.{Begin, Enter}
-use Rattle.session.specs.Histories.{History, index, listed_count}
+use Rattle.session.specs.Histories.{History, listed_count}
 use Rattle.session.specs.Law.{causes, is_listed}
 use Rattle.session.specs.Sessions.{event, Coupled, place_in, Holds, Goes}
 use Rattle.session.specs.Turns.{listing_answer}

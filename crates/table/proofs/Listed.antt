@@ -1,12 +1,12 @@
 -- What holds of all records of a table: their moduli differ, and their pairs are fit.
 -- Main statements: moduli_differ, pair_fits, only_one, decides_modulus, decides_generator.
 -- Assumes nothing.
-use Rattle.std.proofs.Common.{◌≡◌, ℕ, zero, suc, ◌+◌, ◌-◌, ◌%◌, ◌<◌, ◌≤◌, Bool, true, cond, ◌&&◌, eqb, leb, ◌≢◌, List, [], ◌∷◌, length, get_or, Some, None, Decides, Option, sym, refl, ap, ◌∙◌, ⊎_elim, arith}
+use Rattle.std.proofs.Common.{◌≡◌, ℕ, suc, ◌+◌, ◌-◌, ◌%◌, ◌<◌, true, ◌&&◌, eqb, leb, List, [], ◌∷◌, length, get_or, Some, None, Decides, Option, sym, ap, ◌∙◌, ⊎_elim, arith}
 use Rattle.std.proofs.lemmas.Bool.{and_parts, and_from, eqb-true, eq-eqb, ne_eqb, leb-true, le-leb, cases_eq, cond-true, cond-false}
 use Rattle.theory.specs.Pairs.{FitModulus, FitGenerator, Fit}
 use Rattle.table.specs.declared.pair.Record.{Record}
 use Rattle.table.specs.Chain.{chained, rows, head, next_in, modulus_in, number_from, number_of, Only}
-use Rattle.arithmetic.specs.Causes.{index_stands, modulus_fits, generator_fits, index_fits}
+use Rattle.arithmetic.specs.Causes.{index_stands, modulus_fits, generator_fits}
 use Rattle.table.specs.Fitness.{record_fits}
 use Rattle.table.proofs.Meetings.{apart}
 use Rattle.table.proofs.Records.{unlisted}

@@ -1,6 +1,6 @@
 -- The doubling sum: rows of terms, each point twice the one before it in its row.
 -- Assumes nothing.
-use Rattle.std.specs.Prelude.{◌≡◌, Bool, true, false, cond, ◌≢◌, ℕ, zero, suc, ◌+◌, ◌-◌, ◌*◌, ◌/◌, ◌%◌, ◌^◌, ◌<◌, eqb}
+use Rattle.std.specs.Prelude.{◌≡◌, true, false, cond, ◌≢◌, ℕ, zero, suc, ◌-◌, ◌*◌, ◌/◌, ◌%◌, ◌^◌, ◌<◌, eqb}
 use Rattle.theory.specs.Residues.{minus, inverse, signed}
 use Rattle.theory.specs.Sums.{sum}
 use Rattle.theory.specs.Direct.{terms_of}

@@ -1,5 +1,5 @@
 -- The text that is put is the kind's name and a line feed.
-use Rattle.std.proofs.Common.{◌≡◌, ℕ, List, [], ◌∷◌, ◌++◌, take, sym, ap, ◌∙◌, append_assoc, arith}
+use Rattle.std.proofs.Common.{◌≡◌, ℕ, List, ◌++◌, take, sym, ap, ◌∙◌, append_assoc, arith}
 use Rattle.theory.specs.declared.kind.Kind.{Kind}
 use Rattle.line.specs.Lines.{kind_name, line_feed}
 use Rattle.line.proofs.text.put_kind.Goals as goal

@@ -1,4 +1,4 @@
-use Rattle.std.proofs.Common.{◌≡◌, ℕ, ◌+◌, ◌-◌, ◌*◌, ◌/◌, ◌%◌, ◌^◌, ◌<◌, length, get_or, sym, refl, ap, ◌∙◌, arith}
+use Rattle.std.proofs.Common.{◌≡◌, ℕ, ◌*◌, ◌%◌, get_or, refl, ap, ◌∙◌, arith}
 use Rattle.run.specs.Counting.{sign_sum, weighed}
 use Rattle.run.proofs.Signs.{signs_none, cells_to, cell_more}
 use Rattle.run.proofs.gather.gather.Goals as goal

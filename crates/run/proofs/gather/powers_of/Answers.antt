@@ -1,4 +1,4 @@
-use Rattle.std.proofs.Common.{◌≡◌, ℕ, ◌+◌, ◌*◌, ◌%◌, ◌^◌, ◌<◌, ◌≢◌, length, get_or, sym, refl, ap, ◌∙◌, pow-suc, add-one, arith, length-set, get_or-set_other, get_or-set_same, below_more}
+use Rattle.std.proofs.Common.{ℕ, ◌*◌, ◌%◌, ◌^◌, ◌<◌, ◌≢◌, length, sym, refl, ap, ◌∙◌, pow-suc, add-one, arith, length-set, get_or-set_other, get_or-set_same, below_more}
 use native.Mathlib.Nat.{pow-zero}
 use Rattle.theory.proofs.Modular.{mul_mod_left}
 use Rattle.run.proofs.gather.powers_of.Goals as goal

@@ -1,4 +1,4 @@
-use Rattle.std.proofs.Common.{ℕ, ◌*◌, ◌/◌, ◌<◌, arith}
+use Rattle.std.proofs.Common.{arith}
 use Rattle.digits.proofs.Digits.{group_under}
 use Rattle.run.proofs.groups.deposit.Goals as goal
 

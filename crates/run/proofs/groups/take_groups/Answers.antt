@@ -1,4 +1,4 @@
-use Rattle.std.proofs.Common.{◌≡◌, ℕ, ◌+◌, ◌-◌, ◌*◌, ◌/◌, ◌%◌, ◌^◌, ◌<◌, ◌≤◌, sym, refl, ap, ◌∙◌, subst, arith}
+use Rattle.std.proofs.Common.{◌≡◌, ℕ, ◌+◌, ◌*◌, ◌%◌, ◌<◌, sym, refl, ◌∙◌, subst, arith}
 use Rattle.run.proofs.GroupTerms.{Gathering, gathering_none, gathering_more, deposit_asks, every_other}
 use Rattle.run.proofs.groups.take_groups.Goals as goal
 

@@ -1,4 +1,4 @@
-use Rattle.std.proofs.Common.{◌≡◌, ℕ, ◌-◌, ◌%◌, ◌^◌, sym, ap, ◌∙◌, true-eqb, false-eqb}
+use Rattle.std.proofs.Common.{ℕ, ◌-◌, ◌%◌, ◌^◌, sym, ap, ◌∙◌, true-eqb, false-eqb}
 use Rattle.run.proofs.Opening.{rows_refused, index_refused, doubling_started}
 use Rattle.run.proofs.open.start_doubling.Goals as goal
 

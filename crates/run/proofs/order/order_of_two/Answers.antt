@@ -1,4 +1,4 @@
-use Rattle.std.proofs.Common.{◌≡◌, ℕ, ◌+◌, ◌-◌, ◌*◌, ◌/◌, ◌%◌, ◌^◌, ◌<◌, ◌≤◌, ◌≢◌, sym, ap, ◌∙◌, subst, div-le_self, arith, true-eqb, false-eqb}
+use Rattle.std.proofs.Common.{◌≡◌, ℕ, ◌+◌, ◌-◌, ◌/◌, ◌%◌, ◌^◌, ◌<◌, ◌≤◌, ◌≢◌, sym, ap, ◌∙◌, subst, div-le_self, arith, true-eqb, false-eqb}
 use Rattle.theory.specs.Doubling.{order}
 use Rattle.theory.specs.Pairs.{FitModulus}
 use Rattle.run.proofs.Divisors.{Tried, tried_none, tried_more, tried_least, least_is_order, cofactor_of, cofactor_falls}

@@ -1,6 +1,6 @@
-use Rattle.std.proofs.Common.{◌≡◌, ℕ, ◌+◌, ◌-◌, ◌*◌, ◌%◌, ◌<◌, ◌≤◌, sym, ap, ◌∙◌, arith}
+use Rattle.std.proofs.Common.{◌≡◌, ℕ, ◌+◌, ◌-◌, ◌*◌, ◌%◌, ◌<◌, ap, ◌∙◌, arith}
 use Rattle.theory.specs.Residues.{minus}
-use Rattle.run.proofs.StretchTerms.{Along, along_none, along_low, along_high, along_under, along_as}
+use Rattle.run.proofs.StretchTerms.{along_none, along_low, along_high, along_under, along_as}
 use Rattle.run.proofs.stretch.take_stretch.Goals as goal
 use Rattle.run.proofs.stretch.take_stretch.Goals.{then-double-p, else-double-p}
 

@@ -1,4 +1,4 @@
-use Rattle.std.proofs.Common.{◌≡◌, sym, refl, ap, ◌∙◌, arith}
+use Rattle.std.proofs.Common.{arith}
 use Rattle.table.specs.Tables.{contents}
 use Rattle.book.proofs.Files.{read_waits, written_again, found_again}
 use Rattle.book.proofs.listing.Listing.read.Goals as goal

@@ -1,4 +1,4 @@
-use Rattle.std.proofs.Common.{◌≡◌, ℕ, ◌+◌, ◌-◌, ◌*◌, ◌/◌, ◌%◌, ◌<◌, ◌≤◌, mul-le-mul_right, le_of_mul-le-mul_right, arith}
+use Rattle.std.proofs.Common.{ℕ, ◌+◌, ◌-◌, ◌*◌, ◌/◌, ◌<◌, ◌≤◌, mul-le-mul_right, le_of_mul-le-mul_right, arith}
 use Rattle.run.specs.declared.multiplier.Multiplier.{Multiplier}
 use Rattle.run.proofs.Quotients.{guess_low, guess_high, divided}
 use Rattle.run.proofs.multiplier.Multiplier.times.Goals as goal

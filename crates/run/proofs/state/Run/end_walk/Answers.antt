@@ -1,4 +1,4 @@
-use Rattle.std.proofs.Common.{◌≡◌, ◌<◌, true, sym, ap, ◌∙◌, arith}
+use Rattle.std.proofs.Common.{◌≡◌, true, sym, ap, ◌∙◌, arith}
 use Rattle.theory.specs.declared.kind.Kind.{Kind}
 use Rattle.theory.specs.declared.kind.Kind.TheVariants.{Doubling}
 use Rattle.theory.specs.Kinds.{partial_sum, can_run}

@@ -1,8 +1,8 @@
-use Rattle.std.proofs.Common.{◌≡◌, ℕ, ◌-◌, ◌*◌, ◌/◌, ◌%◌, ◌^◌, sym, refl, ap, ◌∙◌, arith}
+use Rattle.std.proofs.Common.{◌≡◌, ℕ, ◌*◌, ◌%◌, ◌^◌, sym, ap, ◌∙◌, arith}
 use Rattle.theory.specs.declared.kind.Kind.{Kind}
 use Rattle.theory.specs.declared.kind.Kind.TheVariants.{Direct, Doubling}
-use Rattle.theory.specs.Direct.{terms_of, direct_sum, direct_result}
-use Rattle.theory.specs.Doubling.{doubling_sum, doubling_result}
+use Rattle.theory.specs.Direct.{terms_of, direct_result}
+use Rattle.theory.specs.Doubling.{doubling_result}
 use Rattle.theory.specs.Kinds.{partial_sum, run_result}
 use Rattle.theory.specs.Residues.{minus, inverse}
 use Rattle.run.specs.declared.state.Run.{Run}

@@ -1,11 +1,11 @@
-use Rattle.std.proofs.Common.{◌≡◌, ℕ, ◌+◌, ◌-◌, ◌*◌, ◌/◌, ◌%◌, ◌<◌, ◌≤◌, min, length, sym, refl, ap, ◌∙◌, subst, mod-lt, arith}
+use Rattle.std.proofs.Common.{◌≡◌, ℕ, ◌+◌, ◌-◌, ◌*◌, ◌/◌, ◌%◌, ◌<◌, min, sym, ap, ◌∙◌, subst, mod-lt, arith}
 use native.Mathlib.Nat.{add-mod-mod}
 use Rattle.theory.specs.Doubling.{row_length_of, doubling_sum}
 use Rattle.run.specs.Counting.{weighed, groups_of}
 use Rattle.run.specs.Places.{kind_of}
 use Rattle.run.proofs.GroupTerms.{Tally, tally_none, tally_room, tally_more, weighed_zeroes, groups_none}
 use Rattle.run.proofs.RowTerms.{rows_have_places, row_of}
-use Rattle.run.proofs.WalkSteps.{Working, length_of, alone_summed}
+use Rattle.run.proofs.WalkSteps.{length_of, alone_summed}
 use Rattle.run.proofs.state.Run.take_counted.Goals as goal
 
 pub rows-rows-requires : goal.rows-rows-requires

@@ -1,8 +1,8 @@
-use Rattle.std.proofs.Common.{◌≡◌, ℕ, ◌+◌, ◌-◌, ◌%◌, ◌<◌, ◌≤◌, sym, refl, ap, ◌∙◌, subst, mod-lt, arith}
+use Rattle.std.proofs.Common.{◌+◌, ◌%◌, ◌<◌, sym, ap, ◌∙◌, mod-lt, arith}
 use Rattle.theory.specs.Doubling.{row_length_of, doubling_sum}
 use Rattle.run.specs.Places.{kind_of}
 use Rattle.run.proofs.RowTerms.{rows_have_places}
-use Rattle.run.proofs.WalkSteps.{Working, place_of, length_of, summed_alone, alone_summed}
+use Rattle.run.proofs.WalkSteps.{length_of, summed_alone, alone_summed}
 use Rattle.run.proofs.state.Run.take_doubling.Goals as goal
 
 pub rows-rows-requires : goal.rows-rows-requires

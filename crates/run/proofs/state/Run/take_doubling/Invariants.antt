@@ -1,4 +1,4 @@
-use Rattle.std.proofs.Common.{◌≡◌, ◌+◌}
+use Rattle.std.proofs.Common.{◌+◌}
 use Rattle.run.proofs.WalkSteps.{Working}
 use Rattle.run.proofs.state.Run.take_doubling.Given as goal
 

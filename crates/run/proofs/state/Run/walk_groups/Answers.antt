@@ -1,4 +1,4 @@
-use Rattle.std.proofs.Common.{◌≡◌, ℕ, ◌+◌, ◌-◌, ◌*◌, ◌%◌, ◌^◌, ◌<◌, List, sym, refl, ap, ◌∙◌, subst, add_assoc, arith}
+use Rattle.std.proofs.Common.{ℕ, ◌+◌, ◌*◌, ◌%◌, ◌^◌, ◌<◌, sym, refl, ap, ◌∙◌, subst, add_assoc, arith}
 use native.Mathlib.Nat.{add-mod-mod}
 use Rattle.theory.specs.Doubling.{doubling_point}
 use Rattle.theory.proofs.Modular.{doubling_point_under}

@@ -1,9 +1,9 @@
 -- The pair is linked into the chain and pushed.
-use Rattle.std.proofs.Common.{◌≡◌, ℕ, suc, ◌+◌, ◌<◌, ◌≤◌, Bool, true, ◌&&◌, List, [], ◌∷◌, ◌++◌, length, set, None, vec_items, vec_len, sym, refl, ap, ◌∙◌, arith}
+use Rattle.std.proofs.Common.{◌≡◌, ℕ, suc, ◌+◌, ◌<◌, true, List, [], ◌∷◌, ◌++◌, length, vec_items, sym, refl, ap, ◌∙◌, arith}
 use Rattle.std.proofs.lemmas.Bool.{and_parts, and_from, leb-true}
 use Rattle.table.specs.declared.pair.Record.{Record}
-use Rattle.table.specs.Chain.{Contents, chained, number_of, place, rows, row, next_in, modulus_in, relinked}
-use Rattle.table.specs.Entering.{enter_causes, waiting_record}
+use Rattle.table.specs.Chain.{place, rows, next_in, modulus_in, relinked}
+use Rattle.table.specs.Entering.{waiting_record}
 use Rattle.arithmetic.specs.Causes.{modulus_fits, generator_fits, index_fits}
 use Rattle.table.specs.Fitness.{record_fits}
 use Rattle.table.specs.Tables.{contents}

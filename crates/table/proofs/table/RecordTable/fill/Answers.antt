@@ -1,7 +1,7 @@
-use Rattle.std.proofs.Common.{◌≡◌, ℕ, ◌-◌, ◌<◌, true, List, length, get_or, set, Some, vec_items, Option, sym, refl, ap, ◌∙◌, subst, arith}
+use Rattle.std.proofs.Common.{◌≡◌, ℕ, ◌-◌, ◌<◌, true, List, length, get_or, set, Some, vec_items, Option, sym, ap, ◌∙◌, arith}
 use Rattle.std.proofs.lemmas.Bool.{and_from, lt-ltb, not_from_false}
 use Rattle.table.specs.declared.pair.Record.{Record}
-use Rattle.table.specs.Chain.{Contents, head, numbered}
+use Rattle.table.specs.Chain.{head, numbered}
 use Rattle.table.specs.Filling.{fillable, with_residue}
 use Rattle.table.specs.Fitness.{record_fits}
 use Rattle.table.specs.Tables.{holding}

@@ -1,4 +1,4 @@
-use Rattle.std.proofs.Common.{◌≡◌, List, vec_items, ap, ◌∙◌}
+use Rattle.std.proofs.Common.{List, vec_items, ap, ◌∙◌}
 use Rattle.table.specs.declared.pair.Record.{Record}
 use Rattle.table.specs.Chain.{number_of}
 use Rattle.table.proofs.Listed.{only_one}

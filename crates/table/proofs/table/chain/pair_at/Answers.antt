@@ -1,10 +1,10 @@
-use Rattle.std.proofs.Common.{◌≡◌, ℕ, ◌-◌, ◌<◌, ◌≤◌, true, List, map, length, get_or, Some, None, sym, ap, ◌∙◌, arith}
+use Rattle.std.proofs.Common.{◌≡◌, ℕ, ◌-◌, ◌<◌, ◌≤◌, true, List, length, get_or, Some, None, sym, ap, ◌∙◌, arith}
 use Rattle.std.specs.List.{slice_get}
 use Rattle.std.proofs.lemmas.List.{length-map, get_or-map}
 use Rattle.std.proofs.lemmas.Option.{slice_get-get_or}
 use Rattle.table.specs.declared.pair.Pair.{Pair}
 use Rattle.table.specs.declared.pair.Record.{Record}
-use Rattle.table.specs.Chain.{chained, rows, row, head, next_in, modulus_in, pair_in, walk, pairs_along}
+use Rattle.table.specs.Chain.{chained, rows, head, next_in, modulus_in, pair_in, walk, pairs_along}
 use Rattle.table.proofs.Chains.{length-walk, walk_within}
 use Rattle.table.proofs.Records.{nth_past, row_at}
 use Rattle.table.proofs.table.chain.pair_at.Goals as goal

@@ -1,8 +1,8 @@
 -- The search for the place: what is left of the chain has it.
-use Rattle.std.proofs.Common.{◌≡◌, ℕ, suc, ◌+◌, ◌-◌, ◌<◌, ◌≤◌, true, List, length, get_or, sym, refl, ap, ◌∙◌, subst, arith}
+use Rattle.std.proofs.Common.{◌≡◌, ℕ, suc, ◌+◌, ◌-◌, ◌<◌, ◌≤◌, List, length, get_or, sym, refl, ap, subst, arith}
 use Rattle.table.specs.declared.pair.Record.{Record}
-use Rattle.table.specs.Chain.{rows, row, head, next_in, modulus_in, place, rises, chained}
-use Rattle.table.proofs.Chains.{Reached, Step, reached_less, reached_step, reached_on, reached_here, reached_end}
+use Rattle.table.specs.Chain.{rows, head, next_in, modulus_in, place, chained}
+use Rattle.table.proofs.Chains.{Reached, reached_less, reached_step, reached_on, reached_here, reached_end}
 use Rattle.table.proofs.Records.{row_at}
 use Rattle.table.proofs.table.chain.place_of.Goals as goal
 

@@ -1,4 +1,4 @@
-use Rattle.std.proofs.Common.{◌≡◌, suc, ◌≤◌, length, drop}
+use Rattle.std.proofs.Common.{◌≡◌, suc, drop}
 use Rattle.table.specs.Chain.{number_of, number_from}
 use Rattle.table.proofs.table.telling.number_of.Given as goal
 
