@@ -9,5 +9,5 @@ capped n = min n (2 ^ 63 - 1)
 
 -- a source that is made has handed out n groups
 abbrev pub Handed : {X : Type 0} → ℕ → (X → ℕ) → Result X Refusal → Type 0
-Handed n Taken-of (Ok s) = Taken-of s ≡ capped n
-Handed n Taken-of (Err e) = Unit {0}
+Handed n taken_of (Ok s) = taken_of s ≡ capped n
+Handed n taken_of (Err e) = Unit {0}

@@ -30,8 +30,8 @@ fit_causes k p g = index_causes k ++ pair_causes k p g
 
 -- else something of its modulus is given
 abbrev pub Paired : {X : Type 0} → ℕ → ℕ → ℕ → (X → ℕ) → Result X Refusal → Type 0
-Paired k p g modulus-of (Ok x) = (first_cause (fit_causes k p g) ≡ None) × Fit k p g × (modulus-of x ≡ p)
-Paired k p g modulus-of (Err e) = first_cause (fit_causes k p g) ≡ Some e
+Paired k p g modulus_of (Ok x) = (first_cause (fit_causes k p g) ≡ None) × Fit k p g × (modulus_of x ≡ p)
+Paired k p g modulus_of (Err e) = first_cause (fit_causes k p g) ≡ Some e
 
 -- opening refuses an unfit pair, then a doubling run that is not usable
 abbrev pub open_causes : Kind → ℕ → ℕ → ℕ → List (Bool × Refusal)

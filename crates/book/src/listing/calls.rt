@@ -79,6 +79,7 @@ impl Listing {
     {
         file::read(&mut self.table, bytes)
     }
+
     // Turns the listing into a book; it takes no further pair then.
     pub fn release(self) -> Book
         ensures same { book result ≡ listing self }
