@@ -1,15 +1,9 @@
 -- The bytes of the two kinds of line: numbers in decimal, single blanks, a line feed.
 -- Assumes nothing.
 use Rattle.std.specs.Prelude.{ℕ, List, [], ◌∷◌, ◌++◌, codes, decimal}
-use Rattle.theory.specs.declared.kind.Kind.{Kind}
-use Rattle.theory.specs.declared.kind.Kind.TheVariants.{Direct, Doubling}
+use Rattle.theory.specs.Kinds.{kind_name}
 use Rattle.line.specs.declared.text.Line.{Line}
 use Rattle.line.specs.declared.text.Line.TheVariants.{Residue, Refused}
-
--- the name of a kind of run
-abbrev pub kind_name : Kind → List ℕ
-kind_name Direct = codes "direct"
-kind_name Doubling = codes "doubling"
 
 abbrev pub blank : List ℕ
 blank = codes " "
