@@ -14,10 +14,10 @@ use Rattle.theory.proofs.EitherKind.{run_gives_bernoulli}
 use Rattle.table.specs.declared.pair.Record.{Record}
 use Rattle.table.specs.Chain.{Contents, every, head, number_of}
 use Rattle.table.specs.Filling.{filled, with_residue}
-use Rattle.table.specs.Fitness.{record_waits}
+use Rattle.table.specs.Fitness.{record_waits, PairFits}
 use Rattle.table.proofs.Fills.{filled_every}
 use Rattle.table.proofs.Records.{every_at}
-use Rattle.book.specs.Books.{WholeRun}
+use Rattle.book.specs.Books.{WholeRun, Shows}
 use Rattle.book.specs.Worked.{record_of, record_worked, residue_worked, result_by}
 use Rattle.book.proofs.Lookups.{number_place, record_has, record_place}
 
@@ -109,3 +109,12 @@ worked_whole k rs p v r all found has fit =
     let worked : residue_worked k r.modulus r.generator r.residue ≡ true = of_record (record_worked k) rs p r all found in
     subst (λ (m : ℕ). WholeRun k m r.generator v) (record_has rs p r found)
     (residue_whole k r.modulus r.generator v fit (subst (λ (o : Option ℕ). residue_worked k r.modulus r.generator o ≡ true) has worked))
+
+-- what is shown where each residue that is there is of a whole run
+shows_each : (k p g : ℕ) (o : Option ℕ) → ((v : ℕ) → o ≡ Some v → WholeRun k p g v) → Shows k p g o
+shows_each k p g None each = tt
+shows_each k p g (Some v) each = each v refl
+
+pub worked_shows : (k : ℕ) (rs : List Record) (p : ℕ) (r : Record) → every (record_worked k) rs ≡ true → record_of rs p ≡ Some r
+    → PairFits k (Some r) → Shows k p r.generator r.residue
+worked_shows k rs p r all found fit = shows_each k p r.generator r.residue (λ v has. worked_whole k rs p v r all found has fit)

@@ -1,6 +1,6 @@
 -- Books as their calls speak of them.
 -- Assumes nothing.
-use Rattle.std.specs.Prelude.{◌≡◌, ℕ, ◌+◌, ◌*◌, ◌/◌, Bool, true, cond, not, List, [], ◌∷◌, length, is_some, Some, None, Ok, Err, Option, Result, ◌==◌}
+use Rattle.std.specs.Prelude.{◌≡◌, ℕ, ◌*◌, ◌/◌, Bool, true, cond, not, List, [], ◌∷◌, length, count_by, is_some, Some, None, Ok, Err, Option, Result, ◌==◌}
 use Rattle.theory.specs.declared.kind.Kind.{Kind}
 use Rattle.theory.specs.Bernoulli.{BernoulliMod}
 use Rattle.theory.specs.Kinds.{can_run, run_result}
@@ -17,8 +17,6 @@ use Rattle.table.specs.Filling.{filled}
 use Rattle.table.specs.Tables.{contents}
 use Rattle.book.specs.Worked.{record_of, waits_not}
 use Rattle.book.specs.declared.book.Book.{Book}
-use Rattle.book.specs.declared.shown.Shown.{Shown}
-use Rattle.book.specs.declared.shown.Shown.TheVariants.{Waits, Residue}
 
 -- what a book holds: index, chain and records
 abbrev pub book : Book → Contents
@@ -68,11 +66,6 @@ FilledIn before after f (Ok _) =
 FilledIn before after f (Err back) =
     (first_cause (fill_causes before f.index f.modulus f.generator) ≡ Some back.0) × (back.1 ≡ f) × (after ≡ before)
 
--- what is shown of a record
-abbrev pub shown_of : Option ℕ → Shown
-shown_of None = Waits
-shown_of (Some v) = Residue v
-
 -- v is the result of a whole run of index k for the pair (p, g), of some kind, and so B_k modulo p where that is sound
 pub record WholeRun (k p g v : ℕ) : Type 0 where
   pub kind : Kind
@@ -81,20 +74,19 @@ pub record WholeRun (k p g v : ℕ) : Type 0 where
   pub bernoulli : Sound p g → BernoulliMod p k v
 
 -- a residue that is shown is the result of a whole run
-abbrev pub Shows : ℕ → ℕ → ℕ → Shown → Type 0
-Shows k p g Waits = Unit {0}
-Shows k p g (Residue v) = WholeRun k p g v
+abbrev pub Shows : ℕ → ℕ → ℕ → Option ℕ → Type 0
+Shows k p g None = Unit {0}
+Shows k p g (Some v) = WholeRun k p g v
 
--- showing tells the residue of the record of p, or that it waits; it refuses a modulus that is not listed
-abbrev pub ShownFor : Contents → ℕ → Result Shown Refusal → Type 0
+-- showing tells the residue of the record of p, none while it waits; it refuses a modulus that is not listed
+abbrev pub ShownFor : Contents → ℕ → Result (Option ℕ) Refusal → Type 0
 ShownFor t p (Ok s) =
-    (r : Record) × (record_of t.records p ≡ Some r) × (s ≡ shown_of r.residue) × Shows t.index p r.generator s
+    (r : Record) × (record_of t.records p ≡ Some r) × (s ≡ r.residue) × Shows t.index p r.generator s
 ShownFor t p (Err e) = (record_of t.records p ≡ None) × (e ≡ NotListed)
 
 -- how many records have their residue
-unfoldable pub filled_count : List Record → ℕ
-filled_count [] = 0
-filled_count (r ∷ rs) = cond (is_some r.residue) 1 0 + filled_count rs
+abbrev pub filled_count : List Record → ℕ
+filled_count rs = count_by (λ r. is_some r.residue) rs
 
 -- the whole part of 1,000 × filled ÷ listed, and 1,000 for an empty book
 abbrev pub share_of : List Record → ℕ

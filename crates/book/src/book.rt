@@ -1,6 +1,5 @@
 // A book: a released listing. It takes runs and residues, and no further modulus.
 mod calls;
-mod filled;
 mod records;
 
 ghost use Rattle.std.specs.Prelude.{◌≡◌, true};

@@ -3,9 +3,7 @@
 
 mod book;
 mod listing;
-mod shown;
 
 pub use book::Book;
 pub use listing::Listing;
-pub use shown::Shown;
 pub use table::{Damage, Fault, Layer, Pair};

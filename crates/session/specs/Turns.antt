@@ -31,3 +31,8 @@ shown_answer (ShownResidue v) = Residue v
 abbrev pub listing_answer : {T : Type 0} → Result T Refusal → Answer
 listing_answer (Ok x) = Done
 listing_answer (Err e) = Refused e
+
+-- the answer of a call that may be refused
+abbrev pub answer_of : Result Answer Refusal → Answer
+answer_of (Ok a) = a
+answer_of (Err e) = Refused e

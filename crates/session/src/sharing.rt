@@ -1,7 +1,7 @@
 // Taking terms of a run of a session.
 ghost use Rattle.std.specs.Prelude.{◌≡◌, length};
 ghost use Rattle.session.specs.Events.{CarryOn, CountOn};
-ghost use Rattle.session.specs.Turns.{Turn, share_answer};
+ghost use Rattle.session.specs.Turns.{Turn, answer_of, share_answer};
 
 use crate::answer::Answer;
 use crate::slot::Slot;
@@ -25,15 +25,17 @@ impl State {
         number: usize,
         arithmetic: &W,
         terms: u32,
-    ) -> Answer
-        ensures turn { Turn self.old self.new (CarryOn number (W.modulus arithmetic.now) terms) result }
+    ) -> Result<Answer, Refusal>
+        ensures turn { Turn self.old self.new (CarryOn number (W.modulus arithmetic.now) terms) (answer_of result) }
     {
-        let Some(mut run) = take_open(&mut self.runs, number) else {
-            return Answer::NotMade;
+        if number >= self.runs.len() {
+            return Ok(Answer::NotMade);
+        }
+        let Slot::Open(run) = &mut self.runs[number] else {
+            return Ok(Answer::NotMade);
         };
-        let answer = share(run.carry_on(arithmetic, terms));
-        put(&mut self.runs, number, Slot::Open(run));
-        answer
+        let terms = run.carry_on(arithmetic, terms)?;
+        Ok(Answer::Share { terms })
     }
 
     pub(crate) fn count_on<W: Arithmetic, D: DigitSource>(

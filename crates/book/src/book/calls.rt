@@ -7,8 +7,6 @@ ghost use Rattle.table.specs.Chain.{chain_pairs};
 ghost use Rattle.book.specs.Books.{book, Opened, FilledIn, ShownFor, share_of};
 
 use super::Book;
-use super::filled::count_filled;
-use crate::shown::Shown;
 use arithmetic::Refusal;
 use run::{FinishedResidue, Run};
 use table::Pair;
@@ -40,9 +38,7 @@ impl Book {
     pub fn open(&self, kind: Kind, modulus: u32) -> Result<Run, Refusal>
         ensures opened { Opened (book self.now) kind modulus result }
     {
-        let Some(record) = self.listed(modulus) else {
-            return Err(Refusal::NotListed);
-        };
+        let record = self.listed(modulus).ok_or(Refusal::NotListed)?;
         if record.residue.is_some() {
             return Err(Refusal::AlreadyFilled);
         }
@@ -61,17 +57,12 @@ impl Book {
         Ok(())
     }
 
-    // The residue of the modulus, or that its record waits.
-    pub fn show(&self, modulus: u32) -> Result<Shown, Refusal>
+    // The residue of the modulus, none while its record waits.
+    pub fn show(&self, modulus: u32) -> Result<Option<u32>, Refusal>
         ensures shown { ShownFor (book self.now) modulus result }
     {
-        let Some(found) = self.listed(modulus) else {
-            return Err(Refusal::NotListed);
-        };
-        match found.residue {
-            Some(residue) => Ok(Shown::Residue(residue)),
-            None => Ok(Shown::Waits),
-        }
+        let found = self.listed(modulus).ok_or(Refusal::NotListed)?;
+        Ok(found.residue)
     }
 
     // How much of the book is filled, in thousandths: the whole part, and 1,000 for a book that lists nothing.
@@ -82,7 +73,12 @@ impl Book {
         if listed == 0 {
             return 1000;
         }
-        let filled = count_filled(self.table.records());
+        let filled = self
+            .table
+            .records()
+            .iter()
+            .filter(|record| record.residue.is_some())
+            .count();
         (1000 * filled / listed) as u32
     }
 

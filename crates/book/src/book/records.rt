@@ -26,12 +26,11 @@ impl Book {
         if finished.index() != self.table.index() {
             return Err(Refusal::OtherIndex);
         }
-        let Some(number) = self.table.find(finished.modulus()) else {
-            return Err(Refusal::NotListed);
-        };
-        let Some(record) = self.table.record(number) else {
-            return Err(Refusal::NotListed);
-        };
+        let number = self
+            .table
+            .find(finished.modulus())
+            .ok_or(Refusal::NotListed)?;
+        let record = self.table.record(number).ok_or(Refusal::NotListed)?;
         if record.generator != finished.generator() {
             return Err(Refusal::OtherGenerator);
         }
