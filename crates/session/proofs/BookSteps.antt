@@ -18,13 +18,11 @@ use Rattle.run.specs.declared.state.Run.{Run}
 use Rattle.table.specs.declared.pair.Record.{Record}
 use Rattle.table.specs.Chain.{Contents}
 use Rattle.table.specs.Filling.{filled}
-use Rattle.book.specs.declared.shown.Shown.{Shown}
-use Rattle.book.specs.declared.shown.Shown.TheVariants.{Waits, Residue}
-use Rattle.book.specs.Books.{open_causes, Opened, has_generator, fill_causes, FilledIn, shown_of, ShownFor}
+use Rattle.book.specs.Books.{open_causes, Opened, has_generator, fill_causes, FilledIn, ShownFor}
 use Rattle.book.specs.Worked.{record_of, generator_in, generator_of, residue_in, residue_for, waits_not}
 use Rattle.book.proofs.Lookups.{listed_generator, filled_generator, filled_residue, filled_residue_other, filled_length}
 use Rattle.session.specs.declared.answer.Answer.{Answer}
-use Rattle.session.specs.declared.answer.Answer.TheVariants.{Opened as OpenedRun, Filled, Waits as WaitsNow, Residue as ResidueNow, Refused, NotMade}
+use Rattle.session.specs.declared.answer.Answer.TheVariants.{Opened as OpenedRun, Filled, Shown, Refused, NotMade}
 use Rattle.session.specs.declared.answer.Outcome.{Outcome}
 use Rattle.session.specs.declared.slot.Slot.{Slot}
 use Rattle.session.specs.declared.slot.Slot.TheVariants.{Open as OpenSlot, Finished, Spent}
@@ -33,12 +31,11 @@ use Rattle.session.specs.Histories.{History, index, generator_listed, is_unspent
 use Rattle.session.specs.Law.{made, is_listed, is_filled, agrees, residue_causes, causes, Accepted, Lawful}
 use Rattle.session.specs.Made.{unspent_at}
 use Rattle.session.specs.Sessions.{event, Unopened, AtWork, Ended, PlaceIs, Coupled, outcome_of, slot_place, place_of, place_in, Holds, Goes}
-use Rattle.session.specs.Turns.{shown_answer}
 use Rattle.session.proofs.Coupling.{coupled_quiet, coupled_open, coupled_fill, place_filled, all_places, still_fresh, place_kept}
 use Rattle.session.proofs.Words.{run_quiet, reported_quiet, given_quiet, generator_quiet, index_quiet, spent_other}
 use Rattle.session.proofs.Lawful.{lawful_accepted}
 use Rattle.session.proofs.RunSteps.{known_index, known_within, goes_refused, goes_not_made, whole_of}
-use Rattle.session.proofs.Steps.{unspent_by_place, told_answer, shown_accepted}
+use Rattle.session.proofs.Steps.{unspent_by_place, shown_accepted}
 use Rattle.session.proofs.Taking.{place_at, found_within, put_same, place_set_same, place_set_other}
 
 -- what is told of a record by its generator and its residue
@@ -91,14 +88,6 @@ push_other xs s q ne =
 found_generator : (o : Option Record) (g : ℕ) → is_some o ≡ true → has_generator o g ≡ true → generator_in o ≡ Some g
 found_generator None g some same = absurd (let z : ◌≡◌ {A = ℕ} 0 1 = cc in omega arith)
 found_generator (Some r) g some same = ap (λ (x : ℕ). Some x) (eqb-true r.generator g same)
-
-shown_residue : (o : Option ℕ) (v : ℕ) → Residue v ≡ shown_of o → o ≡ Some v
-shown_residue None v e = absurd (let z : ◌≡◌ {A = ℕ} 0 1 = cc in omega arith)
-shown_residue (Some x) v e = cc
-
-shown_waits : (o : Option ℕ) → Waits ≡ shown_of o → o ≡ None
-shown_waits None e = refl
-shown_waits (Some x) e = absurd (let z : ◌≡◌ {A = ℕ} 0 1 = cc in omega arith)
 
 module _ (t : Contents) (slots : List Slot) where
   first_of : {cs ds : List (Bool × Refusal)} {x : Option Refusal} → cs ≡ ds → first_cause ds ≡ x → first_cause cs ≡ x
@@ -233,25 +222,13 @@ module _ (t : Contents) (slots : List Slot) where
   show_none h c p r is =
       ap (λ (b : Bool). first_cause ((not b, NotListed) ∷ [])) (listed_is t slots h c p ∙ ap is_some is)
 
-  shown_by : (p : ℕ) (r : Record) → record_of t.records p ≡ Some r → (s : Option ℕ) → r.residue ≡ s → Goes t slots t slots (Show p) (told_answer s)
-  shown_by p r is None residue h c = (
-    lawful_accepted h (known_index t slots h c) (known_within t slots h c) (Show p) WaitsNow refl (show_none h c p r is) (λ e. let never : ◌≡◌ {A = ℕ} 0 1 = cc in omega arith) refl
-        (shown_accepted h t.index (generator_of t.records) (length t.records) (residue_for t.records) (length slots) (place_in slots) c p r.generator None
-        (ap generator_in is) (ap residue_in is ∙ residue)),
-    coupled_quiet h t.index (generator_of t.records) (length t.records) (residue_for t.records) (length slots) (place_in slots) c (Show p) WaitsNow refl refl refl refl refl,
+  pub goes_shown : (p : ℕ) (o : Option ℕ) → ShownFor t p (Ok o) → Goes t slots t slots (Show p) (Shown o)
+  goes_shown p o s h c = (
+    lawful_accepted h (known_index t slots h c) (known_within t slots h c) (Show p) (Shown o) refl (show_none h c p s.0 s.1) (λ e. let never : ◌≡◌ {A = ℕ} 0 1 = cc in omega arith) refl
+        (shown_accepted h t.index (generator_of t.records) (length t.records) (residue_for t.records) (length slots) (place_in slots) c p s.0.generator o
+        (ap generator_in s.1) (ap residue_in s.1 ∙ sym s.2)),
+    coupled_quiet h t.index (generator_of t.records) (length t.records) (residue_for t.records) (length slots) (place_in slots) c (Show p) (Shown o) refl refl refl refl refl,
   )
-  shown_by p r is (Some v) residue h c = (
-    lawful_accepted h (known_index t slots h c) (known_within t slots h c) (Show p) (ResidueNow v) refl (show_none h c p r is) (λ e. let never : ◌≡◌ {A = ℕ} 0 1 = cc in omega arith) refl
-        (shown_accepted h t.index (generator_of t.records) (length t.records) (residue_for t.records) (length slots) (place_in slots) c p r.generator (Some v)
-        (ap generator_in is) (ap residue_in is ∙ residue)),
-    coupled_quiet h t.index (generator_of t.records) (length t.records) (residue_for t.records) (length slots) (place_in slots) c (Show p) (ResidueNow v) refl refl refl refl refl,
-  )
-
-  pub goes_shown : (p : ℕ) (s : Shown) (a : Answer) → a ≡ shown_answer s → ShownFor t p (Ok s) → Goes t slots t slots (Show p) a
-  goes_shown p Waits a is s =
-      subst (λ (x : Answer). Goes t slots t slots (Show p) x) (sym is) (shown_by p s.0 s.1 None (shown_waits s.0.residue s.2))
-  goes_shown p (Residue v) a is s =
-      subst (λ (x : Answer). Goes t slots t slots (Show p) x) (sym is) (shown_by p s.0 s.1 (Some v) (shown_residue s.0.residue v s.2))
 
   pub goes_unlisted : (p : ℕ) (e : Refusal) → ShownFor t p (Err e) → Goes t slots t slots (Show p) (Refused e)
   goes_unlisted p e s =

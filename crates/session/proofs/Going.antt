@@ -1,16 +1,20 @@
 -- Lists of calls: none, one more, and one list after another.
--- Main statements: went_none, went_more, went_on, went_whole.
+-- Main statements: went_none, went_more, went_on, went_whole, answered.
 -- Assumes nothing.
-use Rattle.std.proofs.Common.{◌≡◌, ℕ, suc, List, [], ◌∷◌, ◌++◌, length, sym, refl, ap, ◌∙◌, subst, append_assoc, append-nil, arith, length-append}
+use Rattle.std.proofs.Common.{◌≡◌, ℕ, suc, List, [], ◌∷◌, ◌++◌, length, Ok, Err, Result, sym, refl, ap, ◌∙◌, subst, append_assoc, append-nil, arith, length-append}
 use Rattle.table.specs.Chain.{Contents}
 use Rattle.table.specs.Tables.{empty}
 use Rattle.book.specs.Worked.{record_of}
+use Rattle.std.specs.Result.{MatchResult}
+use Rattle.arithmetic.specs.declared.refusal.Refusal.{Refusal}
 use Rattle.session.specs.declared.answer.Answer.{Answer}
+use Rattle.session.specs.declared.answer.Answer.TheVariants.{Refused}
 use Rattle.session.specs.declared.slot.Slot.{Slot}
 use Rattle.session.specs.Events.{Deed}
 use Rattle.session.specs.Histories.{History, history}
 use Rattle.session.specs.Law.{Law, Answered}
 use Rattle.session.specs.Sessions.{event, Holds, Goes, Went}
+use Rattle.session.specs.Turns.{answer_of}
 use Rattle.session.proofs.Coupling.{coupled_none}
 use Rattle.session.proofs.Lawful.{law_none, law_more}
 
@@ -109,3 +113,8 @@ went_whole t₀ t₁ t₁' t₂ runs slots₂ ds es none mid after first next ne
     subst (λ (x : Contents). Went x [] t₂ slots₂ es mid after) released (subst (λ (x : List Slot). Went t₁' x t₂ slots₂ es mid after) idle next)
     in
     went_all t₂ slots₂ (ds ++ es) after (went_on (empty 2) [] t₁ t₂ [] slots₂ ds es [] mid after first' next')
+
+-- where a refusal becomes the answer of its call
+pub answered : (r : Result Answer Refusal) (a : Answer) → MatchResult r (λ x. a ≡ x) (λ e. a ≡ Refused e) → a ≡ answer_of r
+answered (Ok x) a is = is
+answered (Err e) a is = is

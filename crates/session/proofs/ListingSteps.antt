@@ -16,15 +16,20 @@ use Rattle.table.specs.Fitness.{record_waits}
 use Rattle.table.specs.Tables.{empty}
 use Rattle.book.specs.Worked.{record_of, generator_of, residue_in, residue_for}
 use Rattle.book.proofs.Lookups.{listed_record, listed_generator, entered_same, entered_new, entered_length}
+use Rattle.session.specs.declared.answer.Answer.{Answer}
 use Rattle.session.specs.declared.answer.Answer.TheVariants.{Done, Refused}
 use Rattle.session.specs.Events.{Begin, Enter}
 use Rattle.session.specs.Histories.{History, listed_count}
 use Rattle.session.specs.Law.{causes, is_listed}
 use Rattle.session.specs.Sessions.{event, Coupled, place_in, Holds, Goes}
-use Rattle.session.specs.Turns.{listing_answer}
 use Rattle.session.proofs.Coupling.{coupled_begin, coupled_enter}
 use Rattle.session.proofs.Lawful.{lawful_accepted}
 use Rattle.session.proofs.RunSteps.{known_index, known_within, goes_refused}
+
+-- what a call on the listing is answered
+abbrev pub listing_answer : {T : Type 0} → Result T Refusal → Answer
+listing_answer (Ok x) = Done
+listing_answer (Err e) = Refused e
 
 -- where every record waits no modulus has a residue
 pub all_wait : (rs : List Record) (p : ℕ) → every record_waits rs ≡ true → residue_for rs p ≡ None

@@ -3,7 +3,7 @@
 -- Assumes nothing.
 use Rattle.std.proofs.Common.{◌≡◌, ℕ, ◌+◌, ◌-◌, ◌≤◌, min, Bool, true, false, eqb, ◌≢◌, List, ◌∷◌, length, set, Some, Ok, Err, Result, sym, refl, ap, ◌∙◌, subst, arith}
 use Rattle.std.specs.List.{slice_get}
-use Rattle.std.proofs.lemmas.List.{length-set}
+use Rattle.std.proofs.lemmas.List.{length-set, set-set}
 use Rattle.theory.specs.Direct.{terms_of}
 use Rattle.arithmetic.specs.declared.refusal.Refusal.{Refusal}
 use Rattle.arithmetic.specs.Causes.{first_cause, index_stands}
@@ -27,11 +27,15 @@ use Rattle.session.specs.Histories.{History, index, reported, run_modulus, run_l
 use Rattle.session.specs.Law.{made, causes, Whole, Accepted}
 use Rattle.session.specs.Made.{open_at}
 use Rattle.session.specs.Sessions.{event, AtWork, PlaceIs, Coupled, outcome_of, slot_place, place_in, Holds, Goes}
-use Rattle.session.specs.Turns.{share_answer}
 use Rattle.session.proofs.Coupling.{coupled_quiet, coupled_share, coupled_finish}
 use Rattle.session.proofs.Lawful.{lawful_not_made, lawful_refused, lawful_accepted}
 use Rattle.session.proofs.Steps.{open_by_place, never_too_many, left_at, run_at, finish_causes_are}
 use Rattle.session.proofs.Taking.{place_at, found_within, put_same, place_set_same, place_set_other}
+
+-- what taking terms is answered
+abbrev pub share_answer : Result ℕ Refusal → Answer
+share_answer (Ok n) = Share n
+share_answer (Err e) = Refused e
 
 -- a finished residue is the result of a whole run of its own index and pair
 pub whole_of : (f : FinishedResidue) (k p g : ℕ) → f.index ≡ k → f.modulus ≡ p → f.generator ≡ g → Whole k p g (outcome_of f)
@@ -140,20 +144,18 @@ module _ (t : Contents) (slots : List Slot) where
           h
           c
 
-      -- the run is taken out, carried on and put back
-      pub goes_taken : (run' : Run) (r : Result ℕ Refusal) (mid slots' : List Slot) (a : Answer) → mid ≡ set slots n Spent → slots' ≡ set mid n (Open run')
-          → a ≡ share_answer r → Shared cs c' run run' r → Goes t slots t slots' d a
-      goes_taken run' r mid slots' a out back answer shared =
-          subst (λ (x : Answer). Goes t slots t slots' d x) (sym answer)
-          (subst (λ (x : List Slot). Goes t slots t x d (share_answer r)) (sym (back ∙ ap (λ (x : List Slot). set x n (Open run')) out))
-          (goes_share run' r Spent shared))
+      -- the run is carried on where it stands
+      pub goes_taken : (run' : Run) (r : Result ℕ Refusal) (slots' : List Slot) → slots' ≡ set slots n (Open run') → Shared cs c' run run' r
+          → Goes t slots t slots' d (share_answer r)
+      goes_taken run' r slots' now shared =
+          subst (λ (x : List Slot). Goes t slots t x d (share_answer r)) (sym (now ∙ sym (set-set slots n Spent (Open run'))))
+          (goes_share run' r Spent shared)
 
-    -- a run that is told of, taken out and put back
-    pub goes_told : (mid slots' : List Slot) (a : Answer) → mid ≡ set slots n Spent → slots' ≡ set mid n (Open run)
+    -- a run that is told of
+    pub goes_told : (a : Answer)
         → a ≡ Told run.taken (left_of run) (partial_sum (kind_of run.progress) run.modulus run.generator run.index run.taken)
-        → Goes t slots t slots' (Tell n) a
-    goes_told mid slots' a out back answer =
-        subst (λ (x : List Slot). Goes t slots t x (Tell n) a) (sym (back ∙ ap (λ (x : List Slot). set x n (Open run)) out ∙ put_same slots n (Open run) Spent here))
+        → Goes t slots t slots (Tell n) a
+    goes_told a answer =
         (subst (λ (x : Answer). Goes t slots t slots (Tell n) x) (sym answer)
         (λ h c.
         let at = at_work h c in

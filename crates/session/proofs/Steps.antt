@@ -8,8 +8,7 @@ use Rattle.theory.specs.Direct.{terms_of}
 use Rattle.arithmetic.specs.declared.refusal.Refusal.TheVariants.{CellCount, OtherArithmetic, OtherSource, Share, DirectRun, NoTermLeft, TermsLeft}
 use Rattle.run.specs.Calls.{unfit_share}
 use Rattle.run.specs.CountingOn.{is_direct}
-use Rattle.session.specs.declared.answer.Answer.{Answer}
-use Rattle.session.specs.declared.answer.Answer.TheVariants.{Filled, Waits, Residue}
+use Rattle.session.specs.declared.answer.Answer.TheVariants.{Filled, Shown}
 use Rattle.session.specs.declared.answer.Outcome.{Outcome}
 use Rattle.session.specs.Events.{Deed, CarryOn, CountOn, Finish, Show}
 use Rattle.session.specs.Histories.{History, index, run_opened, reported, given, spent, modulus_in, run_modulus, run_left, is_open, is_unspent, Among}
@@ -80,11 +79,6 @@ module _ (h : History) (r : ℕ) where
         ap (λ (q : ℕ). (not (eqb m q), OtherArithmetic) ∷ (ltb 0 (run_left h r), TermsLeft) ∷ []) modulus_at
         ∙ ap (λ (n : ℕ). (not (eqb m p), OtherArithmetic) ∷ (ltb 0 n, TermsLeft) ∷ []) left_at
 
--- what is shown of the residue of a listed modulus
-abbrev pub told_answer : Option ℕ → Answer
-told_answer None = Waits
-told_answer (Some v) = Residue v
-
 module _ (h : History) (k : ℕ) (generator : ℕ → Option ℕ) (count : ℕ) (residue : ℕ → Option ℕ) (opened : ℕ) (place : ℕ → Place) (coupled : Coupled h k generator count residue opened place) where
   whole_shown : (p g x : ℕ) → generator p ≡ Some g → residue p ≡ Some x
       → (o : Outcome) × (o.residue ≡ x) × Whole (index h) p g o × ((d : Deed) × Among (event d (Filled o)) h)
@@ -103,7 +97,7 @@ module _ (h : History) (k : ℕ) (generator : ℕ → Option ℕ) (count : ℕ) 
       let f : FilledBy h k generator p x = coupled.worked p x is in
       record { call = f.call; outcome = f.outcome; happened = f.happened; modulus_is = f.whole.modulus_is; residue_is = f.residue_is }
 
-  pub shown_accepted : (p g : ℕ) (s : Option ℕ) → generator p ≡ Some g → residue p ≡ s → Accepted h (Show p) (told_answer s)
+  pub shown_accepted : (p g : ℕ) (s : Option ℕ) → generator p ≡ Some g → residue p ≡ s → Accepted h (Show p) (Shown s)
   shown_accepted p g None listed is = (
     g,
     coupled.generator_is p ∙ listed,
@@ -122,7 +116,7 @@ module _ (h : History) (k : ℕ) (generator : ℕ → Option ℕ) (count : ℕ) 
       λ f.
           let some : Some x ≡ Some v = sym is ∙ coupled.fills_are p v f in
           let equal : x ≡ v = cc in
-          ap (λ (y : ℕ). Residue y) equal,
+          ap (λ (y : ℕ). Shown (Some y)) equal,
     ),
     (
       λ same. absurd (let z : ◌≡◌ {A = ℕ} 0 1 = cc in omega arith),

@@ -1,7 +1,7 @@
 -- Slots taken out by their number and put back.
--- Main statements: taken_is, put_back, past_place, not_open, not_finished, place_set_same, place_set_other.
+-- Main statements: open_taken, none_open, finished_taken, none_finished, taken_is, put_back, past_place, not_open, not_finished, place_set_same, place_set_other.
 -- Assumes nothing.
-use Rattle.std.proofs.Common.{◌≡◌, ℕ, ◌<◌, ◌≤◌, false, ◌≢◌, List, length, get_or, set, Some, None, sym, refl, ap, ◌∙◌, ⊎_elim, arith}
+use Rattle.std.proofs.Common.{◌≡◌, ℕ, ◌<◌, ◌≤◌, false, ◌≢◌, List, length, get_or, set, Some, None, Option, sym, refl, ap, ◌∙◌, inl, inr, ⊎_elim, arith}
 use Rattle.std.specs.List.{slice_get}
 use Rattle.std.proofs.lemmas.List.{set-set, set-get_or, length-set, get_or-set_same, get_or-set_other}
 use Rattle.std.proofs.lemmas.Option.{slice_get-get_or, slice_get_past}
@@ -10,6 +10,7 @@ use Rattle.run.specs.declared.finished.FinishedResidue.{FinishedResidue}
 use Rattle.run.specs.declared.state.Run.{Run}
 use Rattle.session.specs.declared.slot.Slot.{Slot}
 use Rattle.session.specs.declared.slot.Slot.TheVariants.{Open, Finished, Spent}
+use Rattle.session.specs.Slots.{GivesRun, GivesFinished, Taken}
 use Rattle.session.specs.Made.{open_at, unspent_at}
 use Rattle.session.specs.Sessions.{Unopened, slot_place, place_of, place_in}
 
@@ -36,6 +37,14 @@ pub not_finished : (s : Slot) → ((f : FinishedResidue) → s ≡ Finished f �
 not_finished (Open run) other = refl
 not_finished (Finished f) other = absurd (other f refl)
 not_finished Spent other = refl
+
+-- what was lent where it stood and is not changed
+pub stays : (xs : List Slot) (n : ℕ) (y : Slot) → y ≡ get_or xs n y → set xs n y ≡ xs
+stays xs n y is = ap (λ (x : Slot). set xs n x) is ∙ set-get_or xs n y
+
+-- a run that is not open
+pub shut_at : (xs : List Slot) (n : ℕ) (y : Slot) → n < length xs → y ≡ get_or xs n y → ((run : Run) → y ≡ Open run → ⊥) → open_at (place_in xs n) ≡ false
+shut_at xs n y low is other = ap open_at (place_at xs n y (taken_is xs n y y low is refl)) ∙ not_open y other
 
 -- a slot that is there has a number below the count
 pub found_within : (xs : List Slot) (n : ℕ) (s : Slot) → slice_get xs n ≡ Some s → n < length xs
@@ -70,3 +79,30 @@ put_same xs n s z is =
     let some : Some (get_or xs n s) ≡ Some s = sym (slice_get-get_or xs n s (found_within xs n s is)) ∙ is in
     let same : get_or xs n s ≡ s = cc in
     put_back xs n s s z (sym same) refl
+
+-- what taking an open run out tells, and where there is none
+pub open_taken : (before after : List Slot) (n : ℕ) (run : Run) → Taken GivesRun before after n (Some run)
+    → (slice_get before n ≡ Some (Open run)) × (after ≡ set before n Spent)
+open_taken before after n run t = (t.1 ∙ ap (λ (x : Slot). Some x) t.2, t.3)
+
+same_again : (xs : List Slot) (n : ℕ) (s other : Slot) → slice_get xs n ≡ Some s → other ≡ s → set xs n other ≡ xs
+same_again xs n s other is same = ap (λ (x : Slot). set xs n x) same ∙ sym (set-set xs n s s) ∙ put_same xs n s s is
+
+pub none_open : (before after : List Slot) (n : ℕ) → Taken GivesRun before after n None → (open_at (place_in before n) ≡ false) × (after ≡ before)
+none_open before after n (inl t) = (ap (λ (o : Option Slot). open_at (place_of o)) t.0, t.1)
+none_open before after n (inr t) = (
+  ap open_at (place_at before n t.0 t.2) ∙ not_open t.0 t.3.1,
+  t.4 ∙ same_again before n t.0 t.1 t.2 t.3.0,
+)
+
+-- and so for a finished residue
+pub finished_taken : (before after : List Slot) (n : ℕ) (f : FinishedResidue) → Taken GivesFinished before after n (Some f)
+    → (slice_get before n ≡ Some (Finished f)) × (after ≡ set before n Spent)
+finished_taken before after n f t = (t.1 ∙ ap (λ (x : Slot). Some x) t.2, t.3)
+
+pub none_finished : (before after : List Slot) (n : ℕ) → Taken GivesFinished before after n None → (unspent_at (place_in before n) ≡ false) × (after ≡ before)
+none_finished before after n (inl t) = (ap (λ (o : Option Slot). unspent_at (place_of o)) t.0, t.1)
+none_finished before after n (inr t) = (
+  ap unspent_at (place_at before n t.0 t.2) ∙ not_finished t.0 t.3.1,
+  t.4 ∙ same_again before n t.0 t.1 t.2 t.3.0,
+)

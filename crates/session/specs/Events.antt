@@ -4,7 +4,7 @@ use Rattle.std.specs.Prelude.{ℕ, Bool, true, false, cond, Some, None, Option, 
 use Rattle.theory.specs.declared.kind.Kind.{Kind}
 use Rattle.arithmetic.specs.declared.refusal.Refusal.{Refusal}
 use Rattle.session.specs.declared.answer.Answer.{Answer}
-use Rattle.session.specs.declared.answer.Answer.TheVariants.{Done, Opened, Share, Finished, Told, Filled, Waits, Residue, Refused, NotMade}
+use Rattle.session.specs.declared.answer.Answer.TheVariants.{Done, Opened, Share, Finished, Told, Filled, Shown, Refused, NotMade}
 use Rattle.session.specs.declared.answer.Outcome.{Outcome}
 
 -- a call: a run goes by its number, an arithmetic and a digit source by their modulus, cells by how many there are
@@ -97,8 +97,7 @@ is_done (Share n) = false
 is_done (Finished o) = false
 is_done (Told t l s) = false
 is_done (Filled o) = false
-is_done Waits = false
-is_done (Residue v) = false
+is_done (Shown v) = false
 is_done (Refused e) = false
 is_done NotMade = false
 
@@ -110,8 +109,7 @@ run_in (Share n) = None
 run_in (Finished o) = None
 run_in (Told t l s) = None
 run_in (Filled o) = None
-run_in Waits = None
-run_in (Residue v) = None
+run_in (Shown v) = None
 run_in (Refused e) = None
 run_in NotMade = None
 
@@ -123,8 +121,7 @@ share_in (Share n) = Some n
 share_in (Finished o) = None
 share_in (Told t l s) = None
 share_in (Filled o) = None
-share_in Waits = None
-share_in (Residue v) = None
+share_in (Shown v) = None
 share_in (Refused e) = None
 share_in NotMade = None
 
@@ -136,8 +133,7 @@ given_in (Share n) = None
 given_in (Finished o) = Some o
 given_in (Told t l s) = None
 given_in (Filled o) = None
-given_in Waits = None
-given_in (Residue v) = None
+given_in (Shown v) = None
 given_in (Refused e) = None
 given_in NotMade = None
 
@@ -149,8 +145,7 @@ filled_in (Share n) = None
 filled_in (Finished o) = None
 filled_in (Told t l s) = None
 filled_in (Filled o) = Some o
-filled_in Waits = None
-filled_in (Residue v) = None
+filled_in (Shown v) = None
 filled_in (Refused e) = None
 filled_in NotMade = None
 
@@ -162,7 +157,6 @@ refusal_in (Share n) = None
 refusal_in (Finished o) = None
 refusal_in (Told t l s) = None
 refusal_in (Filled o) = None
-refusal_in Waits = None
-refusal_in (Residue v) = None
+refusal_in (Shown v) = None
 refusal_in (Refused e) = Some e
 refusal_in NotMade = None

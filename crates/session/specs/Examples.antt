@@ -8,7 +8,7 @@ use Rattle.arithmetic.specs.declared.refusal.Refusal.TheVariants.{AlreadyListed,
 use Rattle.arithmetic.specs.Causes.{first_cause}
 use Rattle.arithmetic.specs.Refusals.{refusal_number}
 use Rattle.session.specs.declared.answer.Answer.{Answer}
-use Rattle.session.specs.declared.answer.Answer.TheVariants.{Done, Opened, Share, Finished, Told, Filled, Waits, Residue, Refused, NotMade}
+use Rattle.session.specs.declared.answer.Answer.TheVariants.{Done, Opened, Share, Finished, Told, Filled, Shown, Refused, NotMade}
 use Rattle.session.specs.declared.answer.Outcome.{Outcome}
 use Rattle.session.specs.Events.{Deed, Begin, Enter, Open, CarryOn, Finish, Tell, Fill, Show, refusal_in}
 use Rattle.session.specs.Histories.{History, history, index, generator_listed, listed_count, openings, reported, residue_filled, is_open, is_unspent}
@@ -26,7 +26,7 @@ worked_deeds =
 abbrev pub worked_answers : List Answer
 worked_answers =
     Done ∷ Done ∷ Refused AlreadyListed ∷ Opened 0 ∷ Share 4 ∷ Told 4 4 15 ∷ Refused TermsLeft ∷ Refused OtherArithmetic ∷ Share 4
-    ∷ Refused NoTermLeft ∷ Finished worked_outcome ∷ NotMade ∷ Filled worked_outcome ∷ NotMade ∷ Residue 3 ∷ Refused NotListed ∷ Refused AlreadyFilled ∷ []
+    ∷ Refused NoTermLeft ∷ Finished worked_outcome ∷ NotMade ∷ Filled worked_outcome ∷ NotMade ∷ Shown (Some 3) ∷ Refused NotListed ∷ Refused AlreadyFilled ∷ []
 
 -- a refusal by its number, and 0 for none
 abbrev pub number_in : Option Refusal → ℕ
@@ -40,8 +40,7 @@ is_not_made (Share n) = false
 is_not_made (Finished o) = false
 is_not_made (Told t l s) = false
 is_not_made (Filled o) = false
-is_not_made Waits = false
-is_not_made (Residue v) = false
+is_not_made (Shown v) = false
 is_not_made (Refused e) = false
 is_not_made NotMade = true
 

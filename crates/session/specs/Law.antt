@@ -12,7 +12,7 @@ use Rattle.arithmetic.specs.Causes.{first_cause, index_causes, pair_causes}
 use Rattle.run.specs.Calls.{unfit_share}
 use Rattle.run.specs.CountingOn.{is_direct}
 use Rattle.session.specs.declared.answer.Answer.{Answer}
-use Rattle.session.specs.declared.answer.Answer.TheVariants.{Done, Opened, Share as Shared, Finished, Told, Filled, Waits, Residue, Refused, NotMade}
+use Rattle.session.specs.declared.answer.Answer.TheVariants.{Done, Opened, Share as Shared, Finished, Told, Filled, Shown, Refused, NotMade}
 use Rattle.session.specs.declared.answer.Outcome.{Outcome}
 use Rattle.session.specs.Events.{Deed, Begin, Enter, Open, CarryOn, CountOn, Finish, Tell, Fill, FillWith, Show, begins, enters_pair, names, refusal_in}
 use Rattle.session.specs.Histories.{History, history, Among, index, generator_listed, listed_count, openings, run_opened, reported, given, residue_filled, run_modulus, run_left, is_open, is_unspent}
@@ -117,9 +117,9 @@ Accepted h (Fill r) a = (o : Outcome) × (given h r ≡ Some o) × (a ≡ Filled
 Accepted h (FillWith o) a = a ≡ Filled o
 Accepted h (Show p) a =
     (g : ℕ) × (generator_listed h p ≡ Some g)
-    × ((v : ℕ) → (a ≡ Residue v) ↔ FillMade h p v)
-    × ((a ≡ Waits) ↔ (is_filled h p ≡ false))
-    × ((v : ℕ) → a ≡ Residue v → (o : Outcome) × (o.residue ≡ v) × Whole (index h) p g o × ((d : Deed) × Among (record { deed = d; answer = Filled o }) h))
+    × ((v : ℕ) → (a ≡ Shown (Some v)) ↔ FillMade h p v)
+    × ((a ≡ Shown None) ↔ (is_filled h p ≡ false))
+    × ((v : ℕ) → a ≡ Shown (Some v) → (o : Outcome) × (o.residue ≡ v) × Whole (index h) p g o × ((d : Deed) × Among (record { deed = d; answer = Filled o }) h))
 
 -- an event is lawful after what came before it
 pub record Lawful (past : History) (d : Deed) (a : Answer) : Type 0 where

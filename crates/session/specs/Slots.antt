@@ -1,6 +1,6 @@
 -- Runs by their number: what taking one out leaves.
 -- Assumes nothing.
-use Rattle.std.specs.Prelude.{◌≡◌, ℕ, ◌×◌, ⊥, List, Some, None, Ok, Err, Option, Result, slice_set}
+use Rattle.std.specs.Prelude.{◌≡◌, ℕ, ◌⊎◌, List, Some, None, Ok, Err, Option, Result, slice_set}
 use Rattle.std.specs.List.{slice_get}
 use Rattle.run.specs.declared.finished.FinishedResidue.{FinishedResidue}
 use Rattle.run.specs.declared.state.Run.{Run}
@@ -17,7 +17,10 @@ abbrev pub GivesFinished : Slot → Result FinishedResidue Slot → Type 0
 GivesFinished s (Ok f) = s ≡ Finished f
 GivesFinished s (Err other) = (other ≡ s) × ((f : FinishedResidue) → s ≡ Finished f → ⊥)
 
--- what stands at n is what is wanted and is taken out, or it is not, or nothing stands there, and nothing is changed
+-- what stands at n is what is wanted and is taken out; or it is not, and what the try handed back stands there; or
+-- nothing stands there, and nothing is changed
 abbrev pub Taken : {T : Type 0} → (Slot → Result T Slot → Type 0) → List Slot → List Slot → ℕ → Option T → Type 0
 Taken gives before after n (Some x) = (s : Slot) × (slice_get before n ≡ Some s) × gives s (Ok x) × (after ≡ slice_set before n Spent)
-Taken gives before after n None = ((s : Slot) → slice_get before n ≡ Some s → (other : Slot) × gives s (Err other)) × (after ≡ before)
+Taken gives before after n None =
+    ((slice_get before n ≡ None) × (after ≡ before))
+    ⊎ ((s : Slot) × (other : Slot) × (slice_get before n ≡ Some s) × gives s (Err other) × (after ≡ slice_set before n other))

@@ -1,12 +1,10 @@
 -- One call on a book or a run of a session.
 -- Assumes nothing.
-use Rattle.std.specs.Prelude.{◌≡◌, ℕ, ◌+◌, ◌≤◌, Ok, Err, vec_items, vec_len, vec_capacity, Result}
+use Rattle.std.specs.Prelude.{◌≡◌, ◌+◌, ◌≤◌, Ok, Err, vec_items, vec_len, vec_capacity, Result}
 use Rattle.arithmetic.specs.declared.refusal.Refusal.{Refusal}
-use Rattle.book.specs.declared.shown.Shown.{Shown}
-use Rattle.book.specs.declared.shown.Shown.TheVariants.{Waits as ShownWaits, Residue as ShownResidue}
 use Rattle.book.specs.Books.{book}
 use Rattle.session.specs.declared.answer.Answer.{Answer}
-use Rattle.session.specs.declared.answer.Answer.TheVariants.{Done, Share, Waits, Residue, Refused}
+use Rattle.session.specs.declared.answer.Answer.TheVariants.{Refused}
 use Rattle.session.specs.declared.state.State.{State}
 use Rattle.session.specs.Events.{Deed}
 use Rattle.session.specs.Sessions.{Goes}
@@ -16,21 +14,6 @@ pub record Turn (before after : State) (d : Deed) (a : Answer) : Type 0 where
   pub goes : Goes (book before.book) (vec_items before.runs) (book after.book) (vec_items after.runs) d a
   pub capacity : vec_capacity after.runs ≡ vec_capacity before.runs
   pub few : vec_len after.runs ≤ vec_len before.runs + 1
-
--- the answer of a call that takes terms
-abbrev pub share_answer : Result ℕ Refusal → Answer
-share_answer (Ok n) = Share n
-share_answer (Err e) = Refused e
-
--- the answer of showing
-abbrev pub shown_answer : Shown → Answer
-shown_answer ShownWaits = Waits
-shown_answer (ShownResidue v) = Residue v
-
--- the answer of a call on the listing
-abbrev pub listing_answer : {T : Type 0} → Result T Refusal → Answer
-listing_answer (Ok x) = Done
-listing_answer (Err e) = Refused e
 
 -- the answer of a call that may be refused
 abbrev pub answer_of : Result Answer Refusal → Answer

@@ -1,9 +1,13 @@
 // What a call of a session is answered.
+ghost use Rattle.std.specs.Prelude.{◌≡◌};
+ghost use Rattle.session.specs.Sessions.{outcome_of};
+
 use arithmetic::Refusal;
+use run::FinishedResidue;
 use theory::Kind;
 
 // What a finished residue tells.
-#[derive(Clone, Copy, Debug)]
+#[derive(Clone, Copy, PartialEq, Eq, Debug)]
 pub struct Outcome {
     pub kind: Kind,
     pub index: u32,
@@ -12,7 +16,21 @@ pub struct Outcome {
     pub residue: u32,
 }
 
-#[derive(Clone, Copy, Debug)]
+impl From<&FinishedResidue> for Outcome {
+    ghost from_gives = { λ finished outcome. outcome ≡ outcome_of finished.now };
+
+    fn from(finished: &FinishedResidue) -> Outcome {
+        Outcome {
+            kind: finished.kind(),
+            index: finished.index(),
+            modulus: finished.modulus(),
+            generator: finished.generator(),
+            residue: finished.residue(),
+        }
+    }
+}
+
+#[derive(Clone, Copy, PartialEq, Eq, Debug)]
 pub enum Answer {
     // the listing is begun, or the pair entered
     Done,
@@ -24,10 +42,8 @@ pub enum Answer {
     Told { taken: u32, left: u32, sum: u32 },
     // the residue that was filled in
     Filled(Outcome),
-    // the record shown waits
-    Waits,
-    // the residue of the record shown
-    Residue(u32),
+    // the residue of the record shown, none while it waits
+    Shown(Option<u32>),
     Refused(Refusal),
     // the call names no run that is open, or no finished residue that is left to fill in
     NotMade,

@@ -4,12 +4,12 @@ ghost use Rattle.book.specs.Books.{book};
 ghost use Rattle.session.specs.Deeds.{book_deed};
 ghost use Rattle.session.specs.Events.{CountOn};
 ghost use Rattle.session.specs.Sessions.{Went};
-ghost use Rattle.session.specs.Turns.{Turn};
+ghost use Rattle.session.specs.Turns.{Turn, answer_of};
 
 use crate::answer::Answer;
 use crate::call::BookCall;
 use crate::state::State;
-use arithmetic::Arithmetic;
+use arithmetic::{Arithmetic, Refusal};
 use digits::DigitSource;
 
 impl State {
@@ -21,16 +21,19 @@ impl State {
         mut source: D,
         mut cells: Vec<u64>,
         terms: u32,
-    ) -> Answer
-        ensures turn { Turn self.old self.new (CountOn number (vec_len cells) (W.modulus arithmetic.now) (D.DigitSource.modulus source) terms) result }
+    ) -> Result<Answer, Refusal>
+        ensures turn { Turn self.old self.new (CountOn number (vec_len cells) (W.modulus arithmetic.now) (D.DigitSource.modulus source) terms) (answer_of result) }
     {
         self.count_on(number, arithmetic, &mut source, cells.as_mut_slice(), terms)
     }
 
     // Makes one call.
-    fn make<W: Arithmetic + Drop, D: DigitSource + Drop>(&mut self, call: BookCall<W, D>) -> Answer
+    fn make<W: Arithmetic + Drop, D: DigitSource + Drop>(
+        &mut self,
+        call: BookCall<W, D>,
+    ) -> Result<Answer, Refusal>
         requires room { vec_len self.old.runs < vec_capacity self.old.runs }
-        ensures turn { Turn self.old self.new (book_deed W.modulus D.DigitSource.modulus call) result }
+        ensures turn { Turn self.old self.new (book_deed W.modulus D.DigitSource.modulus call) (answer_of result) }
     {
         match call {
             BookCall::Open { kind, modulus } => self.open_run(kind, modulus),
@@ -47,7 +50,7 @@ impl State {
                 terms,
             } => self.count_with(run, &arithmetic, source, cells, terms),
             BookCall::Finish { run, arithmetic } => self.finish(run, &arithmetic),
-            BookCall::Tell { run } => self.tell(run),
+            BookCall::Tell { run } => Ok(self.tell(run)),
             BookCall::Fill { run } => self.fill(run),
             BookCall::FillWith { finished } => self.fill_with(finished),
             BookCall::Show { modulus } => self.show(modulus),
@@ -66,6 +69,6 @@ pub(crate) fn make_book_calls<W: Arithmetic + Drop, D: DigitSource + Drop>(
     ensures went { Went (book state.old.book) state.old.runs.items (book state.new.book) state.new.runs.items (map (book_deed W.modulus D.DigitSource.modulus) calls.items) answers.old.items answers.new.items }
 {
     for call in calls {
-        answers.push_reserved(state.make(call));
+        answers.push_reserved(state.make(call).unwrap_or_else(Answer::Refused));
     }
 }

@@ -1,80 +1,58 @@
 // The calls of a session on its book.
-ghost use Rattle.std.specs.Prelude.{◌≡◌, ◌<◌, vec_len, vec_capacity};
+ghost use Rattle.std.specs.Prelude.{◌<◌, vec_len, vec_capacity};
 ghost use Rattle.session.specs.Events.{Open, Fill, FillWith, Show};
 ghost use Rattle.session.specs.Sessions.{outcome_of};
-ghost use Rattle.session.specs.Turns.{Turn, shown_answer};
+ghost use Rattle.session.specs.Turns.{Turn, answer_of};
 
-use crate::answer::Answer;
-use crate::finishing::outcome;
-use crate::slot::Slot;
-use crate::slots::{put, take_finished};
+use crate::answer::{Answer, Outcome};
+use crate::slot::{Slot, take};
 use crate::state::State;
-use book::Shown;
+use arithmetic::Refusal;
 use run::FinishedResidue;
 use theory::Kind;
 
-fn told(shown: Shown) -> Answer
-    ensures value { result ≡ shown_answer shown }
-{
-    match shown {
-        Shown::Waits => Answer::Waits,
-        Shown::Residue(residue) => Answer::Residue(residue),
-    }
-}
-
 impl State {
-    pub(crate) fn open_run(&mut self, kind: Kind, modulus: u32) -> Answer
+    pub(crate) fn open_run(&mut self, kind: Kind, modulus: u32) -> Result<Answer, Refusal>
         requires room { vec_len self.old.runs < vec_capacity self.old.runs }
-        ensures turn { Turn self.old self.new (Open kind modulus) result }
+        ensures turn { Turn self.old self.new (Open kind modulus) (answer_of result) }
     {
-        match self.book.open(kind, modulus) {
-            Ok(run) => {
-                let number = self.runs.len();
-                self.runs.push_reserved(Slot::Open(run));
-                Answer::Opened { run: number }
-            }
-            Err(refusal) => Answer::Refused(refusal),
-        }
+        let opened = self.book.open(kind, modulus)?;
+        let run = self.runs.len();
+        self.runs.push_reserved(Slot::Open(opened));
+        Ok(Answer::Opened { run })
     }
 
     // Fills in what a run gave. A refused residue stays with its run.
-    pub(crate) fn fill(&mut self, number: usize) -> Answer
-        ensures turn { Turn self.old self.new (Fill number) result }
+    pub(crate) fn fill(&mut self, number: usize) -> Result<Answer, Refusal>
+        ensures turn { Turn self.old self.new (Fill number) (answer_of result) }
     {
-        let Some(finished) = take_finished(&mut self.runs, number) else {
-            return Answer::NotMade;
+        let Some(finished) = take::<FinishedResidue>(&mut self.runs, number) else {
+            return Ok(Answer::NotMade);
         };
-        let filled = outcome(&finished);
+        let filled = Outcome::from(&finished);
         match self.book.fill(finished) {
-            Ok(_) => Answer::Filled(filled),
-            Err(back) => {
-                let (refusal, finished) = back;
-                put(&mut self.runs, number, Slot::Finished(finished));
-                Answer::Refused(refusal)
+            Ok(()) => Ok(Answer::Filled(filled)),
+            Err((refusal, finished)) => {
+                self.runs[number] = Slot::Finished(finished);
+                Err(refusal)
             }
         }
     }
 
     // Fills in a residue from elsewhere. A refused one is let go.
-    pub(crate) fn fill_with(&mut self, finished: FinishedResidue) -> Answer
-        ensures turn { Turn self.old self.new (FillWith (outcome_of finished)) result }
+    pub(crate) fn fill_with(&mut self, finished: FinishedResidue) -> Result<Answer, Refusal>
+        ensures turn { Turn self.old self.new (FillWith (outcome_of finished)) (answer_of result) }
     {
-        let filled = outcome(&finished);
+        let filled = Outcome::from(&finished);
         match self.book.fill(finished) {
-            Ok(_) => Answer::Filled(filled),
-            Err(back) => {
-                let (refusal, _) = back;
-                Answer::Refused(refusal)
-            }
+            Ok(()) => Ok(Answer::Filled(filled)),
+            Err((refusal, _)) => Err(refusal),
         }
     }
 
-    pub(crate) fn show(&mut self, modulus: u32) -> Answer
-        ensures turn { Turn self.old self.new (Show modulus) result }
+    pub(crate) fn show(&self, modulus: u32) -> Result<Answer, Refusal>
+        ensures turn { Turn self.now self.now (Show modulus) (answer_of result) }
     {
-        match self.book.show(modulus) {
-            Ok(shown) => told(shown),
-            Err(refusal) => Answer::Refused(refusal),
-        }
+        Ok(Answer::Shown(self.book.show(modulus)?))
     }
 }

@@ -1,60 +1,50 @@
 // Telling and finishing a run of a session.
-ghost use Rattle.std.specs.Prelude.{◌≡◌};
 ghost use Rattle.session.specs.Events.{Finish, Tell};
-ghost use Rattle.session.specs.Sessions.{outcome_of};
-ghost use Rattle.session.specs.Turns.{Turn};
+ghost use Rattle.session.specs.Turns.{Turn, answer_of};
 
 use crate::answer::{Answer, Outcome};
-use crate::slot::Slot;
-use crate::slots::{put, take_open};
+use crate::slot::{Slot, take};
 use crate::state::State;
-use arithmetic::Arithmetic;
-use run::FinishedResidue;
-
-pub(crate) fn outcome(finished: &FinishedResidue) -> Outcome
-    ensures value { result ≡ outcome_of finished.now }
-{
-    Outcome {
-        kind: finished.kind(),
-        index: finished.index(),
-        modulus: finished.modulus(),
-        generator: finished.generator(),
-        residue: finished.residue(),
-    }
-}
+use arithmetic::{Arithmetic, Refusal};
+use run::Run;
 
 impl State {
-    pub(crate) fn tell(&mut self, number: usize) -> Answer
-        ensures turn { Turn self.old self.new (Tell number) result }
+    pub(crate) fn tell(&self, number: usize) -> Answer
+        ensures turn { Turn self.now self.now (Tell number) result }
     {
-        let Some(run) = take_open(&mut self.runs, number) else {
+        if number >= self.runs.len() {
+            return Answer::NotMade;
+        }
+        let Slot::Open(run) = &self.runs[number] else {
             return Answer::NotMade;
         };
-        let answer = Answer::Told {
+        Answer::Told {
             taken: run.taken(),
             left: run.left(),
             sum: run.partial_sum(),
-        };
-        put(&mut self.runs, number, Slot::Open(run));
-        answer
+        }
     }
 
-    pub(crate) fn finish<W: Arithmetic>(&mut self, number: usize, arithmetic: &W) -> Answer
-        ensures turn { Turn self.old self.new (Finish number (W.modulus arithmetic.now)) result }
+    // A run that cannot be finished stays as it is.
+    pub(crate) fn finish<W: Arithmetic>(
+        &mut self,
+        number: usize,
+        arithmetic: &W,
+    ) -> Result<Answer, Refusal>
+        ensures turn { Turn self.old self.new (Finish number (W.modulus arithmetic.now)) (answer_of result) }
     {
-        let Some(run) = take_open(&mut self.runs, number) else {
-            return Answer::NotMade;
+        let Some(run) = take::<Run>(&mut self.runs, number) else {
+            return Ok(Answer::NotMade);
         };
         match run.finish(arithmetic) {
             Ok(finished) => {
-                let answer = Answer::Finished(outcome(&finished));
-                put(&mut self.runs, number, Slot::Finished(finished));
-                answer
+                let outcome = Outcome::from(&finished);
+                self.runs[number] = Slot::Finished(finished);
+                Ok(Answer::Finished(outcome))
             }
-            Err(back) => {
-                let (refusal, run) = back;
-                put(&mut self.runs, number, Slot::Open(run));
-                Answer::Refused(refusal)
+            Err((refusal, run)) => {
+                self.runs[number] = Slot::Open(run);
+                Err(refusal)
             }
         }
     }

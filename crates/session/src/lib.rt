@@ -10,7 +10,6 @@ mod finishing;
 mod listing_calls;
 mod sharing;
 mod slot;
-mod slots;
 mod state;
 mod whole;
 

@@ -3,29 +3,21 @@ ghost use Rattle.std.specs.Prelude.{◌≡◌, ◌+◌, ◌≤◌, [], map, leng
 ghost use Rattle.book.specs.Listings.{listing};
 ghost use Rattle.session.specs.Deeds.{listing_deed};
 ghost use Rattle.session.specs.Sessions.{Goes, Went};
-ghost use Rattle.session.specs.Turns.{listing_answer};
+ghost use Rattle.session.specs.Turns.{answer_of};
 
 use crate::answer::Answer;
 use crate::call::ListingCall;
 use arithmetic::Refusal;
 use book::Listing;
 
-fn done(res: Result<(), Refusal>) -> Answer
-    ensures value { result ≡ listing_answer res }
-{
-    match res {
-        Ok(_) => Answer::Done,
-        Err(refusal) => Answer::Refused(refusal),
-    }
-}
-
-fn make_listing_call(on: &mut Listing, call: ListingCall) -> Answer
-    ensures goes { Goes (listing on.old) [] (listing on.new) [] (listing_deed call) result }
+fn make_listing_call(on: &mut Listing, call: ListingCall) -> Result<Answer, Refusal>
+    ensures goes { Goes (listing on.old) [] (listing on.new) [] (listing_deed call) (answer_of result) }
 {
     match call {
-        ListingCall::Begin { index } => done(on.begin(index)),
-        ListingCall::Enter { modulus, generator } => done(on.enter(modulus, generator)),
+        ListingCall::Begin { index } => on.begin(index)?,
+        ListingCall::Enter { modulus, generator } => on.enter(modulus, generator)?,
     }
+    Ok(Answer::Done)
 }
 
 // Makes the calls in their order, and puts their answers behind those that are there.
@@ -36,6 +28,6 @@ pub(crate) fn make_listing_calls(on: &mut Listing, calls: &[ListingCall], answer
     ensures capacity { vec_capacity answers.new ≡ vec_capacity answers.old }
 {
     for call in calls {
-        answers.push_reserved(make_listing_call(on, *call));
+        answers.push_reserved(make_listing_call(on, *call).unwrap_or_else(Answer::Refused));
     }
 }

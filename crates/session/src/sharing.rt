@@ -1,23 +1,13 @@
 // Taking terms of a run of a session.
-ghost use Rattle.std.specs.Prelude.{◌≡◌, length};
+ghost use Rattle.std.specs.Prelude.{length};
 ghost use Rattle.session.specs.Events.{CarryOn, CountOn};
-ghost use Rattle.session.specs.Turns.{Turn, answer_of, share_answer};
+ghost use Rattle.session.specs.Turns.{Turn, answer_of};
 
 use crate::answer::Answer;
 use crate::slot::Slot;
-use crate::slots::{put, take_open};
 use crate::state::State;
 use arithmetic::{Arithmetic, Refusal};
 use digits::DigitSource;
-
-fn share(res: Result<u32, Refusal>) -> Answer
-    ensures value { result ≡ share_answer res }
-{
-    match res {
-        Ok(terms) => Answer::Share { terms },
-        Err(refusal) => Answer::Refused(refusal),
-    }
-}
 
 impl State {
     pub(crate) fn carry_on<W: Arithmetic>(
@@ -45,14 +35,16 @@ impl State {
         source: &mut D,
         cells: &mut [u64],
         terms: u32,
-    ) -> Answer
-        ensures turn { Turn self.old self.new (CountOn number (length cells.old) (W.modulus arithmetic.now) (D.DigitSource.modulus source.old) terms) result }
+    ) -> Result<Answer, Refusal>
+        ensures turn { Turn self.old self.new (CountOn number (length cells.old) (W.modulus arithmetic.now) (D.DigitSource.modulus source.old) terms) (answer_of result) }
     {
-        let Some(mut run) = take_open(&mut self.runs, number) else {
-            return Answer::NotMade;
+        if number >= self.runs.len() {
+            return Ok(Answer::NotMade);
+        }
+        let Slot::Open(run) = &mut self.runs[number] else {
+            return Ok(Answer::NotMade);
         };
-        let answer = share(run.count_on(arithmetic, source, cells, terms));
-        put(&mut self.runs, number, Slot::Open(run));
-        answer
+        let terms = run.count_on(arithmetic, source, cells, terms)?;
+        Ok(Answer::Share { terms })
     }
 }

@@ -1,5 +1,5 @@
 // What stands for a run by its number, and taking it out.
-ghost use Rattle.std.specs.Prelude.{◌≡◌};
+ghost use Rattle.std.specs.Prelude.{◌≡◌, vec_len, vec_capacity};
 ghost use Rattle.session.specs.Slots.{GivesRun, GivesFinished, Taken};
 
 use run::{FinishedResidue, Run};
@@ -40,8 +40,10 @@ impl TryFrom<Slot> for FinishedResidue {
 }
 
 // Takes out what stands for the run of that number, where it is what is wanted: it counts as spent then.
-pub(crate) fn take<T: TryFrom<Slot, Error = Slot>>(runs: &mut [Slot], number: usize) -> Option<T>
-    ensures taken { Taken T.try_from_gives runs.old runs.new number result }
+pub(crate) fn take<T: TryFrom<Slot, Error = Slot>>(runs: &mut Vec<Slot>, number: usize) -> Option<T>
+    ensures taken { Taken T.try_from_gives runs.old.items runs.new.items number result }
+    ensures len { vec_len runs.new ≡ vec_len runs.old }
+    ensures capacity { vec_capacity runs.new ≡ vec_capacity runs.old }
 {
     if number >= runs.len() {
         return None;

@@ -23,10 +23,7 @@ pub fn work<W: Arithmetic + Drop, D: DigitSource + Drop>(
 ) -> Result<Vec<Answer>, AllocError>
     ensures law { IfOk result (λ answers. Answered (deeds W.modulus D.DigitSource.modulus first.now then.items) answers.items) }
 {
-    let Some(count) = first.len().checked_add(then.len()) else {
-        return Err(AllocError);
-    };
-    let mut answers = Vec::with_capacity(heap, count)?;
+    let mut answers = Vec::with_capacity(heap, first.len() + then.len())?;
     let runs = Vec::with_capacity(heap, then.len())?;
     let mut listing = Listing::new(heap)?;
     make_listing_calls(&mut listing, first, &mut answers);

@@ -1,12 +1,13 @@
 use Rattle.std.proofs.Common.{◌≡◌, List, [], ◌∷◌, ◌++◌, map, vec_items, sym, refl, ap, ◌∙◌, subst, append_assoc, append-nil, arith}
 use Rattle.std.specs.Vec.Iter.{into_iter_items}
 use Rattle.book.specs.Books.{book}
+use Rattle.session.specs.declared.answer.Answer.{Answer}
 use Rattle.session.specs.declared.call.BookCall.{BookCall}
 use Rattle.session.specs.Deeds.{book_deed}
 use Rattle.session.specs.Events.{Deed}
-use Rattle.session.specs.Sessions.{Went}
+use Rattle.session.specs.Sessions.{Goes, Went}
 use Rattle.std.proofs.lemmas.List.{map_push}
-use Rattle.session.proofs.Going.{went_none, went_more, nothing_left}
+use Rattle.session.proofs.Going.{went_none, went_more, nothing_left, answered}
 use Rattle.session.proofs.book_calls.make_book_calls.Goals as goal
 
 pub loop-call-init : goal.loop-call-init
@@ -27,6 +28,9 @@ loop-call-preserved g c =
     let steps = c.in-Some.ensures.steps in
     let turn = c.make.ensures.turn in
     let deed : BookCall g.row.W.Denot g.row.D.Denot → Deed = book_deed g.W.Arithmetic.modulus g.D.DigitSource.modulus in
+    let goes = subst (λ (a : Answer). Goes (book c.loop-call.state.book) (vec_items c.loop-call.state.runs) (book c.make.new.self.book) (vec_items c.make.new.self.runs) (deed c.in-Some.call) a)
+    (sym (answered c.make.result c.unwrap_or_else.result c.unwrap_or_else.ensures)) turn.goes
+    in
     let came = c.loop-call.yielded in
     let call = c.in-Some.call in
     let rest = into_iter_items c.next.new.self in
@@ -39,7 +43,7 @@ loop-call-preserved g c =
       subst (λ (ds : List Deed). Went (book s.book) (vec_items s.runs) (book c.make.new.self.book) (vec_items c.make.new.self.runs) ds before after)
           (sym (map_push deed came call))
           (went_more (book s.book) (book c.loop-call.state.book) (book c.make.new.self.book) (vec_items s.runs) (vec_items c.loop-call.state.runs)
-          (vec_items c.make.new.self.runs) (map deed came) (deed call) c.make.result before (vec_items c.loop-call.answers) after inv.3 turn.goes
+          (vec_items c.make.new.self.runs) (map deed came) (deed call) c.unwrap_or_else.result before (vec_items c.loop-call.answers) after inv.3 goes
           c.push_reserved.ensures.items),
       omega (arith, c.push_reserved.ensures.len, c.push_reserved.ensures.capacity, inv.4, steps.1),
       omega (arith, turn.few, turn.capacity, inv.5, steps.1),

@@ -1,12 +1,13 @@
 use Rattle.std.proofs.Common.{◌≡◌, ◌+◌, List, [], ◌∷◌, ◌++◌, map, get_or, take, vec_items, sym, refl, ap, ◌∙◌, subst, arith}
 use Rattle.std.proofs.lemmas.List.{take_more, take_all, map_push}
 use Rattle.book.specs.Listings.{listing}
+use Rattle.session.specs.declared.answer.Answer.{Answer}
 use Rattle.session.specs.declared.call.ListingCall.{ListingCall}
 use Rattle.session.specs.declared.call.ListingCall.TheVariants.{Begin}
 use Rattle.session.specs.Deeds.{listing_deed}
 use Rattle.session.specs.Events.{Deed}
-use Rattle.session.specs.Sessions.{Went}
-use Rattle.session.proofs.Going.{went_none, went_more}
+use Rattle.session.specs.Sessions.{Goes, Went}
+use Rattle.session.proofs.Going.{went_none, went_more, answered}
 use Rattle.session.proofs.listing_calls.make_listing_calls.Goals as goal
 
 pub loop-call-init : goal.loop-call-init
@@ -25,11 +26,14 @@ loop-call-preserved c =
     in
     let t = listing c.args.on.now in
     let t' = listing c.make_listing_call.new.on in
+    let goes : Goes (listing c.loop-call.on) [] t' [] (listing_deed call) c.unwrap_or_else.result =
+    subst (λ (a : Answer). Goes (listing c.loop-call.on) [] t' [] (listing_deed call) a) (sym (answered c.make_listing_call.result c.unwrap_or_else.result c.unwrap_or_else.ensures)) c.make_listing_call.ensures.goes
+    in
     let before = vec_items c.args.answers.now in
     let after = vec_items c.push_reserved.new.self in (
       subst (λ (ds : List Deed). Went t [] t' [] ds before after) deeds
-          (went_more t (listing c.loop-call.on) t' [] [] [] (map listing_deed (take i calls)) (listing_deed call) c.make_listing_call.result before
-          (vec_items c.loop-call.answers) after c.loop-call.invariant.0 c.make_listing_call.ensures.goes c.push_reserved.ensures.items),
+          (went_more t (listing c.loop-call.on) t' [] [] [] (map listing_deed (take i calls)) (listing_deed call) c.unwrap_or_else.result before
+          (vec_items c.loop-call.answers) after c.loop-call.invariant.0 goes c.push_reserved.ensures.items),
       omega (arith, c.push_reserved.ensures.len, c.loop-call.invariant.1),
       c.push_reserved.ensures.capacity ∙ c.loop-call.invariant.2,
     )

@@ -15,7 +15,7 @@ returns-in-Ok c =
     let runs = vec_items s.runs in
     record {
       turn = record {
-        goes = subst (λ (o : Outcome). Goes t runs t' runs (FillWith (outcome_of c.args.finished)) (Filled o)) (sym c.outcome-filled.ensures.value)
+        goes = subst (λ (o : Outcome). Goes t runs t' runs (FillWith (outcome_of c.args.finished)) (Filled o)) (sym c.from-filled.ensures)
             (goes_filled_with t runs c.args.finished t' c.in-Ok.field-0 c.in-Ok.ensures.filled);
         capacity = refl;
         few = omega arith;
@@ -27,7 +27,7 @@ returns-in-Err c =
     let s = c.args.self.now in
     record {
       turn = record {
-        goes = goes_unfilled_with (book s.book) (vec_items s.runs) (Unit {0}) c.args.finished (book c.fill.new.self) c.in-Err.back c.in-Err.ensures.filled;
+        goes = goes_unfilled_with (book s.book) (vec_items s.runs) (Unit {0}) c.args.finished (book c.fill.new.self) (c.in-Err.refusal, c.in-Err.field-0-1) c.in-Err.ensures.filled;
         capacity = refl;
         few = omega arith;
       };
