@@ -31,11 +31,8 @@ fn open_run(book: &Book, modulus: u32) -> Result<Run, Refusal>
     ensures opened { Opened (held book.now) (kind_for modulus (held book.now).index) modulus result }
 {
     match book.open(Kind::Doubling, modulus) {
-        Ok(run) => Ok(run),
-        Err(refusal) => match refusal {
-            Refusal::NotUsable => book.open(Kind::Direct, modulus),
-            _ => Err(refusal),
-        },
+        Err(Refusal::NotUsable) => book.open(Kind::Direct, modulus),
+        opened => opened,
     }
 }
 
