@@ -14,7 +14,7 @@ mod traits;
 pub use balanced::{Balanced, BalancedElement};
 pub use either::{Either, EitherElement};
 pub use fitness::{try_index, try_pair};
-pub use modulus::try_modulus;
+pub use modulus::{Modulus, try_modulus};
 pub use montgomery::{Montgomery, MontgomeryElement};
 pub use plain::{Plain, PlainElement};
 pub use power::{invert, raise};
