@@ -2,16 +2,13 @@
 use arithmetic::{Balanced, Montgomery, Plain, Refusal};
 use digits::{Divider, Doubler, Reciprocal};
 
-// The number of the refusal, or 0 where there was none.
-fn refused<T: Drop>(made: Result<T, Refusal>) -> u8 {
-    match made {
-        Ok(_) => 0,
-        Err(refusal) => refusal.number(),
-    }
+// The number of the refusal, where there was one.
+fn refused<T: Drop>(made: Result<T, Refusal>) -> Option<u8> {
+    made.err().map(Refusal::number)
 }
 
 // What making each arithmetic and each source for the modulus answers.
-fn makings(modulus: u32) -> [u8; 9] {
+fn makings(modulus: u32) -> [Option<u8>; 9] {
     [
         refused(Plain::new(modulus)),
         refused(Montgomery::new(modulus)),
@@ -28,10 +25,10 @@ fn makings(modulus: u32) -> [u8; 9] {
 #[test]
 fn unfit_moduli(rt: HostRuntime) {
     for modulus in [0, 1, 2, 3, 4, 6, 2147483648, 2147483649, 4294967295u32] {
-        assert_eq!(rt; makings(modulus), [2; 9]);
+        assert_eq!(rt; makings(modulus), [Some(2); 9]);
     }
     for modulus in [5, 7, 9, 2147483645, 2147483647u32] {
-        assert_eq!(rt; makings(modulus), [0; 9]);
+        assert_eq!(rt; makings(modulus), [None; 9]);
     }
 }
 
@@ -59,7 +56,7 @@ static NUMBERED: [(Refusal, u8); 19] = [
 
 #[test]
 fn refusal_numbers(rt: HostRuntime) {
-    for (refusal, number) in &NUMBERED {
-        assert_eq!(rt; refusal.number(), *number);
+    for &(refusal, number) in &NUMBERED {
+        assert_eq!(rt; refusal.number(), number);
     }
 }

@@ -3,7 +3,7 @@
 
 mod dividing;
 mod doubling;
-mod either;
+mod sides;
 mod reciprocal;
 mod source;
 mod traits;

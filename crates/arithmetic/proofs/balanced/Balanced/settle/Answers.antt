@@ -6,10 +6,10 @@ use Rattle.arithmetic.proofs.balanced.Balanced.settle.Goals as goal
 
 pub returns-then-rest-modulus : goal.returns-then-rest-modulus
 returns-then-rest-modulus c =
-    let p = c.args.self.now.modulus in
+    let p = c.args.self.now.modulus.number in
     let n = c.args.n in
-    let positive : 0 < p = omega (arith, c.args.self.now.fit.1) in
-    let small : p < 2147483648 = omega (arith, c.args.self.now.fit.2) in
+    let positive : 0 < p = omega (arith, c.args.self.now.modulus.fit.1) in
+    let small : p < 2147483648 = omega (arith, c.args.self.now.modulus.fit.2) in
     let under : remainder p n < p = remainder_under p n positive in
     let rest : c.rem_euclid-rest.result ≡ pos (remainder p n) =
     remainder_words p n c.rem_euclid-rest.result (omega arith) c.ranges.n c.rem_euclid-rest.ensures.value in
@@ -18,15 +18,15 @@ returns-then-rest-modulus c =
     let less : up z + p ≡ remainder p n + down z = omega (arith, ints) in
     record {
       value = remainder_less p n z positive less;
-      word = within_half p z (omega (arith, c.args.self.now.fit.0)) (omega (arith, c.args.self.now.fit.0));
+      word = within_half p z (omega (arith, c.args.self.now.modulus.fit.0)) (omega (arith, c.args.self.now.modulus.fit.0));
     }
 
 pub returns-else-rest-modulus : goal.returns-else-rest-modulus
 returns-else-rest-modulus c =
-    let p = c.args.self.now.modulus in
+    let p = c.args.self.now.modulus.number in
     let n = c.args.n in
-    let positive : 0 < p = omega (arith, c.args.self.now.fit.1) in
-    let small : p < 2147483648 = omega (arith, c.args.self.now.fit.2) in
+    let positive : 0 < p = omega (arith, c.args.self.now.modulus.fit.1) in
+    let small : p < 2147483648 = omega (arith, c.args.self.now.modulus.fit.2) in
     let under : remainder p n < p = remainder_under p n positive in
     let rest : c.rem_euclid-rest.result ≡ pos (remainder p n) =
     remainder_words p n c.rem_euclid-rest.result (omega arith) c.ranges.n c.rem_euclid-rest.ensures.value in
@@ -35,5 +35,5 @@ returns-else-rest-modulus c =
     let same : z ≡ pos (remainder p n) = omega (arith, ints) in
     record {
       value = remainder_same p n z positive same;
-      word = within_half p z (omega (arith, c.args.self.now.fit.0, ap up same, ap down same)) (omega (arith, c.args.self.now.fit.0, ap up same, ap down same));
+      word = within_half p z (omega (arith, c.args.self.now.modulus.fit.0, ap up same, ap down same)) (omega (arith, c.args.self.now.modulus.fit.0, ap up same, ap down same));
     }

@@ -5,7 +5,7 @@ use Rattle.arithmetic.proofs.balanced.BalancedArithmetic.mul.Goals as goal
 
 pub returns : goal.returns
 returns c =
-    let p = c.args.self.now.modulus in
+    let p = c.args.self.now.modulus.number in
     let a = c.args.a.0 in
     let b = c.args.b.0 in
     let left : SFits w32 a = search rules in
@@ -13,6 +13,6 @@ returns c =
     record {
       value = c.settle.ensures.value
           ∙ ap (remainder p) (product_words a b left right)
-          ∙ remainder_product p a b (omega (arith, c.args.self.now.fit.1));
+          ∙ remainder_product p a b (omega (arith, c.args.self.now.modulus.fit.1));
       word = c.settle.ensures.word;
     }

@@ -3,13 +3,13 @@ use Rattle.arithmetic.proofs.Halving.{reduced_word, reduced_above, reduced_below
 use Rattle.arithmetic.proofs.montgomery.Montgomery.reduce.Goals as goal
 
 -- what is taken off the high word is below p
-taken_below : (c : goal.Then-high-taken) → (c.args.t % 4294967296 * c.args.self.now.reciprocal % 4294967296) * c.args.self.now.modulus / 4294967296 < c.args.self.now.modulus
+taken_below : (c : goal.Then-high-taken) → (c.args.t % 4294967296 * c.args.self.now.reciprocal % 4294967296) * c.args.self.now.modulus.number / 4294967296 < c.args.self.now.modulus.number
 taken_below c =
-    high_below c.args.self.now.modulus (c.args.t % 4294967296 * c.args.self.now.reciprocal % 4294967296) 4294967296
-    (omega (arith, c.args.self.now.fit.1)) (omega arith) (omega arith)
+    high_below c.args.self.now.modulus.number (c.args.t % 4294967296 * c.args.self.now.reciprocal % 4294967296) 4294967296
+    (omega (arith, c.args.self.now.modulus.fit.1)) (omega arith) (omega arith)
 
 pub overflow_add-result : goal.overflow_add-result
-overflow_add-result c = omega (arith, taken_below c, c.args.self.now.fit.2)
+overflow_add-result c = omega (arith, taken_below c, c.args.self.now.modulus.fit.2)
 
 pub overflow_sub-result : goal.overflow_sub-result
 overflow_sub-result c = omega (arith, taken_below c)
@@ -17,7 +17,7 @@ overflow_sub-result c = omega (arith, taken_below c)
 pub returns-then-high-taken : goal.returns-then-high-taken
 returns-then-high-taken c =
     let s = c.args.self.now in
-    let p = s.modulus in
+    let p = s.modulus.number in
     let t = c.args.t in
     let m = t % 4294967296 * s.reciprocal % 4294967296 in
     record {
@@ -28,7 +28,7 @@ returns-then-high-taken c =
 pub returns-else-high-taken : goal.returns-else-high-taken
 returns-else-high-taken c =
     let s = c.args.self.now in
-    let p = s.modulus in
+    let p = s.modulus.number in
     let t = c.args.t in
     let m = t % 4294967296 * s.reciprocal % 4294967296 in
     record {

@@ -7,8 +7,8 @@ returns-then-once-modulus c = record { value = c.less_once-once.ensures.value; w
 
 pub returns-else-once-modulus : goal.returns-else-once-modulus
 returns-else-once-modulus c =
-    let p = c.args.self.now.modulus in
+    let p = c.args.self.now.modulus.number in
     record {
       value = mod-mod c.less_once-once.result p ∙ c.less_once-once.ensures.value;
-      word = mod-lt c.less_once-once.result (omega (arith, c.args.self.now.fit.1));
+      word = mod-lt c.less_once-once.result (omega (arith, c.args.self.now.modulus.fit.1));
     }

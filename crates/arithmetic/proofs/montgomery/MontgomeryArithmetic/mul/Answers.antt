@@ -8,6 +8,6 @@ returns c =
     let a = c.args.a.0 in
     let b = c.args.b.0 in
     record {
-      value = halved_product s.modulus c.reduce.result a b s.fit.0 c.reduce.ensures.value;
-      word = λ left right. c.reduce.ensures.word (product_below s.modulus a b left (omega arith));
+      value = halved_product s.modulus.number c.reduce.result a b s.modulus.fit.0 c.reduce.ensures.value;
+      word = λ left right. c.reduce.ensures.word (product_below s.modulus.number a b left (omega arith));
     }

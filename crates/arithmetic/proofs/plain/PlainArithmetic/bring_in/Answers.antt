@@ -3,4 +3,4 @@ use native.Mathlib.Nat.{mod-mod}
 use Rattle.arithmetic.proofs.plain.PlainArithmetic.bring_in.Goals as goal
 
 pub returns : goal.returns
-returns c = record { value = mod-mod c.args.n c.args.self.now.modulus; word = refl }
+returns c = record { value = mod-mod c.args.n c.args.self.now.modulus.number; word = refl }
