@@ -1,10 +1,15 @@
 -- Both kinds of sum under one name.
 -- Assumes nothing.
-use Rattle.std.specs.Prelude.{Bool, true, not, ◌&&◌, ℕ, ◌-◌, ◌*◌, ◌%◌, ◌^◌, eqb}
+use Rattle.std.specs.Prelude.{Bool, true, not, ◌&&◌, ℕ, ◌-◌, ◌*◌, ◌%◌, ◌^◌, eqb, List, codes}
 use Rattle.theory.specs.declared.kind.Kind.{Kind}
 use Rattle.theory.specs.declared.kind.Kind.TheVariants.{Direct, Doubling}
 use Rattle.theory.specs.Direct.{direct_sum, direct_result}
 use Rattle.theory.specs.Doubling.{row_length_of, doubling_sum, doubling_result}
+
+-- the name of a kind
+abbrev pub kind_name : Kind → List ℕ
+kind_name Direct = codes "direct"
+kind_name Doubling = codes "doubling"
 
 -- the partial sum of the first t terms
 unfoldable pub partial_sum : Kind → ℕ → ℕ → ℕ → ℕ → ℕ
