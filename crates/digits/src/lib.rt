@@ -3,8 +3,8 @@
 
 mod dividing;
 mod doubling;
-mod sides;
 mod reciprocal;
+mod sides;
 mod source;
 mod traits;
 
