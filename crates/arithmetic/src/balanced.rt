@@ -9,13 +9,13 @@ use crate::modulus::Modulus;
 use crate::refusal::Refusal;
 use crate::traits::Arithmetic;
 
-#[derive(Clone, Copy)]
+#[derive(Clone, Copy, Debug)]
 pub struct Balanced {
     modulus: Modulus,
 }
 
 // A signed word that stands for its remainder by p. The operations only make words from −(p − 1)/2 to (p − 1)/2.
-#[derive(Clone, Copy)]
+#[derive(Clone, Copy, Debug)]
 pub struct BalancedElement(i32);
 
 impl Balanced {

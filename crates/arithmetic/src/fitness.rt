@@ -10,7 +10,7 @@ use crate::refusal::Refusal;
 pub fn try_index(index: u32) -> Result<(), Refusal>
     ensures answer { result_err result ≡ first_cause (index_causes index) }
 {
-    if index % 2 == 1 || index < 2 || index > 2147483646 {
+    if index % 2 == 1 || !(2..=2147483646).contains(&index) {
         return Err(Refusal::Index);
     }
     Ok(())
@@ -21,7 +21,7 @@ pub fn try_pair(index: u32, modulus: u32, generator: u32) -> Result<(), Refusal>
     ensures answer { result_err result ≡ first_cause (pair_causes index modulus generator) }
 {
     try_modulus(modulus)?;
-    if generator < 2 || generator > modulus - 1 {
+    if !(2..modulus).contains(&generator) {
         return Err(Refusal::Generator);
     }
     if index > modulus - 3 {

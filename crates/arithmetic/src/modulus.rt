@@ -17,7 +17,7 @@ impl TryFrom<u32> for Modulus {
     ghost try_from_gives = { λ number made. Made number (λ p. p.number) made };
 
     fn try_from(number: u32) -> Result<Modulus, Refusal> {
-        if number % 2 == 0 || number < 5 || number > 2147483647 {
+        if number % 2 == 0 || !(5..=2147483647).contains(&number) {
             return Err(Refusal::Modulus);
         }
         Ok(Modulus { number })

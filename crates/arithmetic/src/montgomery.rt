@@ -9,7 +9,7 @@ use crate::modulus::Modulus;
 use crate::refusal::Refusal;
 use crate::traits::Arithmetic;
 
-#[derive(Clone, Copy)]
+#[derive(Clone, Copy, Debug)]
 pub struct Montgomery {
     modulus: Modulus,
     // 1/p modulo 2^32
@@ -21,7 +21,7 @@ pub struct Montgomery {
 }
 
 // A word that stands for its 2^32nd part modulo p. Of words below p the operations only make words below p.
-#[derive(Clone, Copy)]
+#[derive(Clone, Copy, Debug)]
 pub struct MontgomeryElement(u32);
 
 // Newton's step: from 1/p modulo 2^k to 1/p modulo 2^(2k), as far as the word reaches.

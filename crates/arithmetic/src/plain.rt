@@ -8,13 +8,13 @@ use crate::modulus::Modulus;
 use crate::refusal::Refusal;
 use crate::traits::Arithmetic;
 
-#[derive(Clone, Copy)]
+#[derive(Clone, Copy, Debug)]
 pub struct Plain {
     modulus: Modulus,
 }
 
 // A word that stands for its remainder by p. The operations only make words below p.
-#[derive(Clone, Copy)]
+#[derive(Clone, Copy, Debug)]
 pub struct PlainElement(u32);
 
 impl Plain {

@@ -5,7 +5,7 @@ ghost use Rattle.std.proofs.Common.{rules};
 use crate::traits::Division;
 use arithmetic::Modulus;
 
-#[derive(Clone, Copy)]
+#[derive(Clone, Copy, Debug)]
 pub struct Doubling {
     modulus: Modulus,
 }
@@ -56,6 +56,7 @@ impl Division for Doubling {
     fn divide(&self, x: u32) -> (u64, u32) {
         let p = self.modulus.number;
         let (mut quotient, mut rest) = start(p, x);
+        // a loop, and no fold: the fold's closure would have to require what the invariant keeps of both numbers
         for _i in 0..8u32 {
             (quotient, rest) = doubled(p, quotient, rest);
         }

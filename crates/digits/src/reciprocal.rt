@@ -7,7 +7,7 @@ use crate::source::Source;
 use crate::traits::Division;
 use arithmetic::Modulus;
 
-#[derive(Clone, Copy)]
+#[derive(Clone, Copy, Debug)]
 pub struct Multiplying {
     modulus: Modulus,
     reciprocal: u64,

@@ -10,7 +10,7 @@ use crate::reciprocal::Multiplying;
 use crate::traits::{DigitSource, Division};
 use arithmetic::{Modulus, Refusal};
 
-#[derive(Drop)]
+#[derive(Debug, Drop)]
 pub struct Source<D> {
     pub(crate) division: D,
     taken: u64,
