@@ -31,7 +31,7 @@ pub trait DigitSource {
 }
 
 // A way to divide by one modulus, with what is kept for it. Nothing refuses.
-pub trait Division: Drop {
+pub trait Division {
     ghost divisor: { Self → ℕ };
 
     fn by(modulus: Modulus) -> Self
