@@ -4,21 +4,20 @@ ghost use Rattle.theory.specs.Residues.{inverse};
 
 use crate::traits::Arithmetic;
 
-// The power of an element, by squaring.
+// The power of an element: the square of its power to half the exponent, times the element where the exponent is odd.
 pub fn raise<W: Arithmetic>(arithmetic: &W, base: W::Element, exponent: u32) -> W::Element
     ensures value { W.residue arithmetic.now result ≡ W.residue arithmetic.now base ^ exponent % W.modulus arithmetic.now }
 {
-    let mut power = arithmetic.bring_in(1);
-    let mut square = base;
-    let mut left = exponent;
-    while left > 0 {
-        if left % 2 == 1 {
-            power = arithmetic.mul(power, square);
-        }
-        square = arithmetic.mul(square, square);
-        left /= 2;
+    if exponent == 0 {
+        return arithmetic.bring_in(1);
     }
-    power
+    let half = raise(arithmetic, base, exponent / 2);
+    let square = arithmetic.mul(half, half);
+    if exponent % 2 == 1 {
+        arithmetic.mul(square, base)
+    } else {
+        square
+    }
 }
 
 // 1/a: the power a^(p − 2), which is 0 for 0.

@@ -1,87 +1,88 @@
 // Why a call refuses. Each refusal has a number, by which it is known outside the library.
-ghost use Rattle.std.specs.Prelude.{◌≡◌, ◌==◌};
-ghost use Rattle.arithmetic.specs.Refusals.{refusal_number};
-ghost use Rattle.std.specs.Cmp.Rules.{comparing};
-ghost use Rattle.std.proofs.Common.{rules};
-ghost use Rattle.std.specs.Cmp as Keys;
+ghost use Rattle.std.specs.Prelude.{◌≡◌, ◌==◌, Some};
+ghost use Rattle.arithmetic.specs.Refusals.{refusal_number, refusal_text};
 
-#[derive(Clone, Copy, Eq, Debug)]
+use std::error::Error;
+use std::fmt;
+
+#[derive(Clone, Copy, PartialEq, Eq, Hash, Debug)]
 pub enum Refusal {
     // the index is odd or outside 2 to 2147483646
-    Index,
+    Index = 1,
     // the modulus is even or outside 5 to 2147483647
-    Modulus,
+    Modulus = 2,
     // the generator is outside 2 to p − 1
-    Generator,
+    Generator = 3,
     // the index is above p − 3
-    IndexAboveModulus,
+    IndexAboveModulus = 4,
     // 1,023 pairs are listed
-    ListingFull,
+    ListingFull = 5,
     // the modulus is listed already
-    AlreadyListed,
+    AlreadyListed = 6,
     // the finished residue has another generator than the record of its modulus
-    OtherGenerator,
+    OtherGenerator = 7,
     // the finished residue has another index than the book
-    OtherIndex,
+    OtherIndex = 8,
     // the modulus is not listed
-    NotListed,
+    NotListed = 9,
     // the record has its residue
-    AlreadyFilled,
+    AlreadyFilled = 10,
     // no doubling run: 2^k leaves 1, or 2n' does not divide p − 1
-    NotUsable,
+    NotUsable = 11,
     // not exactly 256 cells
-    CellCount,
+    CellCount = 12,
     // the arithmetic has another modulus than the run
-    OtherArithmetic,
+    OtherArithmetic = 13,
     // the digit source has another modulus than the run
-    OtherSource,
+    OtherSource = 14,
     // the number of terms asked for is outside 1 to 1048576
-    Share,
+    Share = 15,
     // a direct run cannot be counted on
-    DirectRun,
+    DirectRun = 16,
     // no term is left to take
-    NoTermLeft,
+    NoTermLeft = 17,
     // terms are left, so the run cannot be finished
-    TermsLeft,
+    TermsLeft = 18,
     // the output is shorter than needed
-    OutputShort,
+    OutputShort = 23,
 }
 
 impl Refusal {
+    // Refusals are the same exactly where their numbers are.
     pub fn number(self) -> u8
         ensures value { result ≡ refusal_number self }
+        ensures apart { (other : Refusal) → ⟦<Refusal as PartialEq>⟧.eq self other ≡ (result == refusal_number other) }
     {
-        match self {
-            Refusal::Index => 1,
-            Refusal::Modulus => 2,
-            Refusal::Generator => 3,
-            Refusal::IndexAboveModulus => 4,
-            Refusal::ListingFull => 5,
-            Refusal::AlreadyListed => 6,
-            Refusal::OtherGenerator => 7,
-            Refusal::OtherIndex => 8,
-            Refusal::NotListed => 9,
-            Refusal::AlreadyFilled => 10,
-            Refusal::NotUsable => 11,
-            Refusal::CellCount => 12,
-            Refusal::OtherArithmetic => 13,
-            Refusal::OtherSource => 14,
-            Refusal::Share => 15,
-            Refusal::DirectRun => 16,
-            Refusal::NoTermLeft => 17,
-            Refusal::TermsLeft => 18,
-            Refusal::OutputShort => 23,
-        }
+        self as u8
     }
 }
 
-// Refusals are the same exactly where their numbers are.
-impl PartialEq for Refusal {
-    ghost eq = { λ a b. (refusal_number a == refusal_number b) };
+impl fmt::Display for Refusal {
+    ghost output = { λ refusal. Some (refusal_text refusal) };
 
-    ghost laws = { Keys.partial_equiv_from_equiv (Prim.search (comparing, rules)) };
-
-    fn eq(&self, other: &Refusal) -> bool {
-        self.number() == other.number()
+    fn fmt<W: fmt::Write>(&self, f: &mut fmt::Formatter<W>) -> fmt::Result {
+        f.write_str(match self {
+            Refusal::Index => "the index is odd or out of range",
+            Refusal::Modulus => "the modulus is even or out of range",
+            Refusal::Generator => "the generator is out of range",
+            Refusal::IndexAboveModulus => "the modulus is too small for the index",
+            Refusal::ListingFull => "the listing is full",
+            Refusal::AlreadyListed => "the modulus is listed already",
+            Refusal::OtherGenerator => "the record has another generator",
+            Refusal::OtherIndex => "the book has another index",
+            Refusal::NotListed => "the modulus is not listed",
+            Refusal::AlreadyFilled => "the record has its residue",
+            Refusal::NotUsable => "a doubling run is not usable",
+            Refusal::CellCount => "not exactly 256 cells",
+            Refusal::OtherArithmetic => "the arithmetic has another modulus",
+            Refusal::OtherSource => "the source has another modulus",
+            Refusal::Share => "the share is out of range",
+            Refusal::DirectRun => "a direct run cannot be counted on",
+            Refusal::NoTermLeft => "no term is left",
+            Refusal::TermsLeft => "terms are left",
+            Refusal::OutputShort => "the output is too short",
+        })
     }
 }
+
+impl Error for Refusal {}

@@ -52,9 +52,9 @@ fn power(p: u32, a: u32, n: u32) -> u32
 {
     let m = p as u64;
     let mut result = 1u64;
-    for i in 0..32u32 {
+    for i in (0..32u32).rev() {
         result = result % m * (result % m) % m;
-        if n >> (31 - i) & 1 == 1 {
+        if n >> i & 1 == 1 {
             result = result % m * (a as u64 % m) % m;
         }
     }
@@ -88,10 +88,7 @@ fn agree(rt: &impl Abort, p: u32) -> Result<(), Fail> {
 
 #[test]
 fn arithmetics_agree(rt: HostRuntime) -> Result<(), Fail> {
-    for p in PRIMES {
-        agree(&rt, p)?;
-    }
-    for p in COMPOSITES {
+    for &p in PRIMES.iter().chain(&COMPOSITES) {
         agree(&rt, p)?;
     }
     Ok(())

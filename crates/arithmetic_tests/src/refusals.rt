@@ -1,18 +1,18 @@
 // The numbers of the refusals, and the moduli that are refused.
-use arithmetic::{Balanced, Montgomery, Plain, Refusal};
+use arithmetic::{Balanced, Modulus, Montgomery, Plain, Refusal};
 use digits::{Divider, Doubler, Reciprocal};
+use std::test::Fail;
+use theory::Kind;
 
-// The number of the refusal, or 0 where there was none.
-fn refused<T: Drop>(made: Result<T, Refusal>) -> u8 {
-    match made {
-        Ok(_) => 0,
-        Err(refusal) => refusal.number(),
-    }
+// The number of the refusal, where there was one.
+fn refused<T: Drop>(made: Result<T, Refusal>) -> Option<u8> {
+    made.err().map(Refusal::number)
 }
 
-// What making each arithmetic and each source for the modulus answers.
-fn makings(modulus: u32) -> [u8; 9] {
+// What trying the modulus and making each arithmetic and each source for it answers.
+fn makings(modulus: u32) -> [Option<u8>; 10] {
     [
+        refused(Modulus::try_from(modulus)),
         refused(Plain::new(modulus)),
         refused(Montgomery::new(modulus)),
         refused(Balanced::new(modulus)),
@@ -28,10 +28,10 @@ fn makings(modulus: u32) -> [u8; 9] {
 #[test]
 fn unfit_moduli(rt: HostRuntime) {
     for modulus in [0, 1, 2, 3, 4, 6, 2147483648, 2147483649, 4294967295u32] {
-        assert_eq!(rt; makings(modulus), [2; 9]);
+        assert_eq!(rt; makings(modulus), [Some(2); 10]);
     }
     for modulus in [5, 7, 9, 2147483645, 2147483647u32] {
-        assert_eq!(rt; makings(modulus), [0; 9]);
+        assert_eq!(rt; makings(modulus), [None; 10]);
     }
 }
 
@@ -59,7 +59,14 @@ static NUMBERED: [(Refusal, u8); 19] = [
 
 #[test]
 fn refusal_numbers(rt: HostRuntime) {
-    for (refusal, number) in &NUMBERED {
-        assert_eq!(rt; refusal.number(), *number);
+    for &(refusal, number) in &NUMBERED {
+        assert_eq!(rt; refusal.number(), number);
     }
+}
+
+#[test]
+fn texts(rt: HostRuntime) -> Result<(), Fail> {
+    let texts = format!(in rt.alloc(); "{}: {}", Kind::Doubling, Refusal::NotUsable)?;
+    assert_eq!(rt; texts.as_str(), "doubling: a doubling run is not usable");
+    Ok(())
 }

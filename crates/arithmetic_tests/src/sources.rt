@@ -33,10 +33,7 @@ fn agree(rt: &impl Abort, p: u32) -> Result<(), Fail> {
 
 #[test]
 fn sources_agree(rt: HostRuntime) -> Result<(), Fail> {
-    for p in PRIMES {
-        agree(&rt, p)?;
-    }
-    for p in COMPOSITES {
+    for &p in PRIMES.iter().chain(&COMPOSITES) {
         agree(&rt, p)?;
     }
     Ok(())

@@ -92,10 +92,10 @@ guess_product p e x under =
     omega (arith, mul-le-mul_right {m = x} {n = p} (2 ^ e / p) (omega arith), div-mul-le_self (2 ^ e) p)
 
 -- the guess in words of m values
-pub guess_near : (p e w x m r : ℕ) → 0 < p → w ≤ e → x < p → x ≤ 2 ^ (e - w) → 2 ^ e < m → r ≡ 2 ^ e / p → Near (2 ^ w * x / p) (x * r % m / 2 ^ (e - w))
-guess_near p e w x m r positive within under small room whole =
-    let same : x * r % m / 2 ^ (e - w) ≡ x * (2 ^ e / p) / 2 ^ (e - w) =
-    ap (λ (k : ℕ). x * k % m / 2 ^ (e - w)) whole ∙ ap (λ (k : ℕ). k / 2 ^ (e - w)) (mod-eq_of_lt (omega (arith, guess_product p e x under))) in
+pub guess_near : (p e w x m : ℕ) → 0 < p → w ≤ e → x < p → x ≤ 2 ^ (e - w) → 2 ^ e < m → Near (2 ^ w * x / p) (x * (2 ^ e / p) % m / 2 ^ (e - w))
+guess_near p e w x m positive within under small room =
+    let same : x * (2 ^ e / p) % m / 2 ^ (e - w) ≡ x * (2 ^ e / p) / 2 ^ (e - w) =
+    ap (λ (k : ℕ). k / 2 ^ (e - w)) (mod-eq_of_lt (omega (arith, guess_product p e x under))) in
     record {
       low = omega (arith, guess_low p e w x positive within);
       high = omega (arith, guess_high p e w x positive within small);

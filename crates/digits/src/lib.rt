@@ -1,14 +1,15 @@
 // Digit sources: from a point x below p, the next eight binary digits of x/p and the point that follows them.
 #![tactic(auto)]
 
-mod divider;
-mod doubler;
-mod either;
+mod dividing;
+mod doubling;
 mod reciprocal;
-mod tally;
+mod sides;
+mod source;
 mod traits;
 
-pub use divider::Divider;
-pub use doubler::Doubler;
-pub use reciprocal::Reciprocal;
-pub use traits::DigitSource;
+pub use dividing::Dividing;
+pub use doubling::Doubling;
+pub use reciprocal::Multiplying;
+pub use source::{Divider, Doubler, Reciprocal, Source};
+pub use traits::{DigitSource, Division};

@@ -1,69 +1,61 @@
-// The source that multiplies by the reciprocal: a guess from the whole quotient of 2^62 by p, put right where it is one too small.
+// The division that multiplies by the reciprocal: a guess from the whole quotient of 2^62 by p, put right where it is one too small.
 ghost use Rattle.std.specs.Prelude.{◌≡◌, ◌*◌, ◌/◌, ◌%◌, ◌^◌, ◌<◌};
-ghost use Rattle.arithmetic.specs.Made.{Made};
-ghost use Rattle.digits.specs.Counts.{Handed};
 ghost use Rattle.digits.specs.Guesses.{Near};
 ghost use Rattle.std.proofs.Common.{rules, arith};
 
-use crate::tally::Tally;
-use crate::traits::DigitSource;
-use arithmetic::Refusal;
+use crate::source::Source;
+use crate::traits::Division;
+use arithmetic::Modulus;
 
-#[derive(Drop)]
-pub struct Reciprocal {
-    tally: Tally,
+#[derive(Clone, Copy, Debug)]
+pub struct Multiplying {
+    modulus: Modulus,
     reciprocal: u64,
-    ghost whole: { reciprocal ≡ 2 ^ 62 / tally.modulus },
+    ghost whole: { reciprocal ≡ 2 ^ 62 / modulus.number },
 }
 
-impl Reciprocal {
-    pub fn new(modulus: u32) -> Result<Reciprocal, Refusal>
-        ensures made { Made modulus (λ s. s.tally.modulus) result }
-        ensures count { Handed 0 (λ s. s.tally.taken) result }
-    {
-        Reciprocal::resume(modulus, 0)
-    }
-
-    // A source that has handed out `taken` groups already.
-    pub fn resume(modulus: u32, taken: u64) -> Result<Reciprocal, Refusal>
-        ensures made { Made modulus (λ s. s.tally.modulus) result }
-        ensures count { Handed taken (λ s. s.tally.taken) result }
-    {
-        let tally = Tally::new(modulus, taken)?;
-        let reciprocal = 4611686018427387904 / tally.modulus as u64;
-        Ok(Reciprocal { tally, reciprocal })
-    }
-
-    // The guess at the whole quotient of 256·x by p: x times that of 2^62, without its low 54 bits.
-    pub fn guess(&self, x: u32) -> u64
-        ensures value { result ≡ x * (2 ^ 62 / self.now.tally.modulus) % 2 ^ 64 / 2 ^ 54 }
-        ensures near { x < self.now.tally.modulus → Near (256 * x / self.now.tally.modulus) result }
+impl Multiplying {
+    // x times the whole quotient of 2^62 by p, without its low 54 bits.
+    #[inline]
+    fn guess(&self, x: u32) -> u64
+        ensures value { result ≡ x * (2 ^ 62 / self.now.modulus.number) % 2 ^ 64 / 2 ^ 54 }
     {
         (x as u64).wrapping_mul(self.reciprocal) >> 54
     }
 }
 
-impl DigitSource for Reciprocal {
-    ghost modulus = { λ s. s.tally.modulus };
+impl Source<Multiplying> {
+    // The guess at the whole quotient of 256·x by p.
+    pub fn guess(&self, x: u32) -> u64
+        ensures value { result ≡ x * (2 ^ 62 / self.now.division.modulus.number) % 2 ^ 64 / 2 ^ 54 }
+        ensures near { x < self.now.division.modulus.number → Near (256 * x / self.now.division.modulus.number) result }
+    {
+        self.division.guess(x)
+    }
+}
 
-    ghost taken = { λ s. s.tally.taken };
+impl Division for Multiplying {
+    ghost divisor = { λ d. d.modulus.number };
 
-    ghost fit = { first_of (Prim.search rules, Prim.grind (arith, Self.row.coded.inj)) };
+    ghost fit = { λ d. d.modulus.fit };
 
-    ghost bounded = { first_of (Prim.search rules, Prim.grind (arith, Self.row.coded.inj)) };
-
-    fn modulus(&self) -> u32 {
-        self.tally.modulus
+    fn by(modulus: Modulus) -> Multiplying {
+        let reciprocal = 4611686018427387904 / modulus.number as u64;
+        Multiplying {
+            modulus,
+            reciprocal,
+        }
     }
 
-    fn count(&self) -> u64 {
-        self.tally.taken
+    #[inline]
+    fn divisor(&self) -> u32 {
+        self.modulus.number
     }
 
-    fn group(&mut self, x: u32) -> (u64, u32) {
-        let modulus = self.tally.modulus as u64;
+    #[inline]
+    fn divide(&self, x: u32) -> (u64, u32) {
+        let modulus = self.modulus.number as u64;
         let guess = self.guess(x);
-        self.tally.raise();
         let wide = x as u64 * 256;
         let rest = wide.wrapping_sub(guess * modulus);
         if rest < modulus {

@@ -1,9 +1,11 @@
-// What every digit source means: its modulus p, and how many groups it has handed out.
+// What every digit source means, and what every division that a source may work by.
 ghost use Rattle.std.specs.Prelude.{◌≡◌, ℕ, ◌+◌, ◌*◌, ◌/◌, ◌%◌, ◌^◌, ◌<◌};
 ghost use Rattle.digits.specs.Counts.{capped};
 ghost use Rattle.theory.specs.Pairs.{FitModulus};
 
-// A source of groups of eight binary digits. Nothing refuses.
+use arithmetic::Modulus;
+
+// A source of groups of eight binary digits: it has a modulus p, and counts the groups that it hands out. Nothing refuses.
 pub trait DigitSource {
     ghost modulus: { Self → ℕ };
 
@@ -26,4 +28,22 @@ pub trait DigitSource {
     ghost fit: { (s : Self) → FitModulus (modulus s) };
 
     ghost bounded: { (s : Self) → taken s < 2 ^ 63 };
+}
+
+// A way to divide by one modulus, with what is kept for it. Nothing refuses.
+pub trait Division {
+    ghost divisor: { Self → ℕ };
+
+    fn by(modulus: Modulus) -> Self
+        ensures value { divisor result ≡ modulus.number };
+
+    fn divisor(&self) -> u32
+        ensures value { result ≡ divisor self.now };
+
+    // The whole quotient of 256·x and the remainder.
+    fn divide(&self, x: u32) -> (u64, u32)
+        ensures quotient { result.0 ≡ 256 * x / divisor self.now }
+        ensures remainder { result.1 ≡ 256 * x % divisor self.now };
+
+    ghost fit: { (d : Self) → FitModulus (divisor d) };
 }

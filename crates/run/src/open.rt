@@ -10,7 +10,7 @@ use theory::Kind;
 
 // Refuses a pair that is not fit for the index; else gives an arithmetic of its modulus.
 fn check_pair(index: u32, modulus: u32, generator: u32) -> Result<Plain, Refusal>
-    ensures causes { Paired index modulus generator (λ a. a.modulus) result }
+    ensures causes { Paired index modulus generator (λ a. a.modulus.number) result }
 {
     try_index(index)?;
     try_pair(index, modulus, generator)?;

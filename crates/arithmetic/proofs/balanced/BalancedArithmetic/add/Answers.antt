@@ -4,14 +4,11 @@ use Rattle.arithmetic.specs.Words.{remainder}
 use Rattle.arithmetic.proofs.Signed.{remainder_sum}
 use Rattle.arithmetic.proofs.balanced.BalancedArithmetic.add.Goals as goal
 
-pub returns : goal.returns
-returns c =
+pub returns-clause-value : goal.returns-clause-value
+returns-clause-value c =
     let p = c.args.self.now.modulus in
     let a = c.args.a.0 in
     let b = c.args.b.0 in
-    record {
-      value = c.settle.ensures.value
-          ∙ ap (remainder p) {y = a +ℤ b} (omega (arith, ints))
-          ∙ remainder_sum p a b (omega (arith, c.args.self.now.fit.1));
-      word = c.settle.ensures.word;
-    }
+    c.settle.ensures.value
+    ∙ ap (remainder p.number) {y = a +ℤ b} (omega (arith, ints))
+    ∙ remainder_sum p.number a b (omega (arith, p.fit.1))

@@ -4,14 +4,11 @@ use Rattle.arithmetic.specs.Words.{remainder}
 use Rattle.arithmetic.proofs.Signed.{remainder_difference}
 use Rattle.arithmetic.proofs.balanced.BalancedArithmetic.sub.Goals as goal
 
-pub returns : goal.returns
-returns c =
+pub returns-clause-value : goal.returns-clause-value
+returns-clause-value c =
     let p = c.args.self.now.modulus in
     let a = c.args.a.0 in
     let b = c.args.b.0 in
-    record {
-      value = c.settle.ensures.value
-          ∙ ap (remainder p) {y = a -ℤ b} (omega (arith, ints))
-          ∙ remainder_difference p a b (a -ℤ b) (omega (arith, c.args.self.now.fit.1)) (omega (arith, ints));
-      word = c.settle.ensures.word;
-    }
+    c.settle.ensures.value
+    ∙ ap (remainder p.number) {y = a -ℤ b} (omega (arith, ints))
+    ∙ remainder_difference p.number a b (a -ℤ b) (omega (arith, p.fit.1)) (omega (arith, ints))

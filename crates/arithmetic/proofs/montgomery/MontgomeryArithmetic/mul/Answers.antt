@@ -1,13 +1,7 @@
-use Rattle.std.proofs.Common.{arith}
-use Rattle.arithmetic.proofs.Halving.{halved_product, product_below}
+use Rattle.arithmetic.proofs.Halving.{halved_product}
 use Rattle.arithmetic.proofs.montgomery.MontgomeryArithmetic.mul.Goals as goal
 
-pub returns : goal.returns
-returns c =
-    let s = c.args.self.now in
-    let a = c.args.a.0 in
-    let b = c.args.b.0 in
-    record {
-      value = halved_product s.modulus c.reduce.result a b s.fit.0 c.reduce.ensures.value;
-      word = λ left right. c.reduce.ensures.word (product_below s.modulus a b left (omega arith));
-    }
+pub returns-clause-value : goal.returns-clause-value
+returns-clause-value c =
+    let p = c.args.self.now.modulus in
+    halved_product p.number c.reduce.result c.args.a.0 c.args.b.0 p.fit.0 c.reduce.ensures.value

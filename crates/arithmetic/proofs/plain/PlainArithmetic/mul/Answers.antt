@@ -1,13 +1,9 @@
-use Rattle.std.proofs.Common.{◌*◌, sym, ◌∙◌, mod-lt, arith}
+use Rattle.std.proofs.Common.{◌*◌, sym, ◌∙◌}
 use native.Mathlib.Nat.{mod-mod}
 use Rattle.theory.proofs.Modular.{mul-mod}
 use Rattle.arithmetic.proofs.plain.PlainArithmetic.mul.Goals as goal
 
-pub returns : goal.returns
-returns c =
-    let p = c.args.self.now.modulus in
-    let product = c.args.a.0 * c.args.b.0 in
-    record {
-      value = mod-mod product p ∙ sym (mul-mod c.args.a.0 c.args.b.0 p);
-      word = mod-lt product (omega (arith, c.args.self.now.fit.1));
-    }
+pub returns-clause-value : goal.returns-clause-value
+returns-clause-value c =
+    let p = c.args.self.now.modulus.number in
+    mod-mod (c.args.a.0 * c.args.b.0) p ∙ sym (mul-mod c.args.a.0 c.args.b.0 p)

@@ -1,5 +1,5 @@
 use Rattle.std.proofs.Common.{◌≡◌, ◌+◌, ◌*◌, ◌^◌, ◌<◌}
-use Rattle.digits.proofs.doubler.DoublerDigitSource.group.Given as goal
+use Rattle.digits.proofs.doubling.DoublingDivision.divide.Given as goal
 
 -- after i digits the quotient and the rest make up 2^i·x
 abbrev pub invariant-loop-i : goal.invariant-loop-i
