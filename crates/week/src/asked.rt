@@ -1,97 +1,120 @@
 // What is printed of a call.
-use crate::brought::{AnyArithmetic, AnySource, Call, arithmetic_name, source_name};
-use crate::shown::kind_name;
+use crate::brought::{AnyArithmetic, AnySource, Call, Named};
 use arithmetic::Arithmetic;
 use digits::DigitSource;
 use run::FinishedResidue;
 use session::{BookCall, ListingCall};
 use std::alloc::{AllocError, Global};
-use theory::Kind;
+use std::fmt;
 
-fn listing_text(heap: Global, call: ListingCall) -> Result<String, AllocError> {
-    match call {
-        ListingCall::Begin { index } => format!(in heap; "begin index {index}"),
-        ListingCall::Enter { modulus, generator } => {
-            format!(in heap; "enter ({modulus}, {generator})")
+// A call on the listing, as it is printed.
+#[derive(Clone, Copy)]
+struct OnListing<'a>(&'a ListingCall);
+
+impl fmt::Display for OnListing<'_> {
+    fn fmt<W: fmt::Write>(&self, f: &mut fmt::Formatter<W>) -> fmt::Result {
+        match self.0 {
+            ListingCall::Begin { index } => write!(f, "begin index {index}"),
+            ListingCall::Enter { modulus, generator } => write!(
+                f,
+                "enter ({modulus}, {generator})"
+            ),
         }
     }
 }
 
-fn open_text(heap: Global, kind: Kind, modulus: u32) -> Result<String, AllocError> {
-    let kind = kind_name(kind);
-    format!(in heap; "open a {kind} run for {modulus}")
+// An arithmetic or a source.
+#[derive(Clone, Copy)]
+struct Brought {
+    name: &'static str,
+    modulus: u32,
 }
 
-fn arithmetic_text(heap: Global, arithmetic: &AnyArithmetic) -> Result<String, AllocError> {
-    let name = arithmetic_name(arithmetic);
-    let modulus = Arithmetic::modulus(arithmetic);
-    format!(in heap; "{name} modulo {modulus}")
+impl From<&AnyArithmetic> for Brought {
+    fn from(arithmetic: &AnyArithmetic) -> Brought {
+        Brought {
+            name: arithmetic.name(),
+            modulus: Arithmetic::modulus(arithmetic),
+        }
+    }
 }
 
-fn source_text(heap: Global, source: &AnySource) -> Result<String, AllocError> {
-    let name = source_name(source);
-    let modulus = DigitSource::modulus(source);
-    format!(in heap; "{name} modulo {modulus}")
+impl From<&AnySource> for Brought {
+    fn from(source: &AnySource) -> Brought {
+        Brought {
+            name: source.name(),
+            modulus: DigitSource::modulus(source),
+        }
+    }
 }
 
-fn carry_text(
-    heap: Global,
-    run: usize,
-    arithmetic: &AnyArithmetic,
-    terms: u32,
-) -> Result<String, AllocError> {
-    let arithmetic = arithmetic_text(heap, arithmetic)?;
-    format!(in heap; "carry run {run} on by {terms} terms, {arithmetic}")
+impl fmt::Display for Brought {
+    fn fmt<W: fmt::Write>(&self, f: &mut fmt::Formatter<W>) -> fmt::Result {
+        let Brought { name, modulus } = self;
+        write!(f, "{name} modulo {modulus}")
+    }
 }
 
-fn count_text(
-    heap: Global,
-    run: usize,
-    arithmetic: &AnyArithmetic,
-    source: &AnySource,
-    cells: usize,
-    terms: u32,
-) -> Result<String, AllocError> {
-    let arithmetic = arithmetic_text(heap, arithmetic)?;
-    let source = source_text(heap, source)?;
-    format!(in heap; "count run {run} on by {terms} terms, {arithmetic}, {source}, {cells} cells")
+// A residue from elsewhere.
+#[derive(Clone, Copy)]
+struct Residue<'a>(&'a FinishedResidue);
+
+impl fmt::Display for Residue<'_> {
+    fn fmt<W: fmt::Write>(&self, f: &mut fmt::Formatter<W>) -> fmt::Result {
+        let index = self.0.index();
+        let modulus = self.0.modulus();
+        let generator = self.0.generator();
+        let residue = self.0.residue();
+        write!(
+            f,
+            "residue {residue} of index {index} for ({modulus}, {generator})"
+        )
+    }
 }
 
-fn finish_text(heap: Global, run: usize, arithmetic: &AnyArithmetic) -> Result<String, AllocError> {
-    let arithmetic = arithmetic_text(heap, arithmetic)?;
-    format!(in heap; "finish run {run}, {arithmetic}")
-}
+// A call on the book.
+#[derive(Clone, Copy)]
+struct OnBook<'a>(&'a Call);
 
-fn fill_with_text(heap: Global, finished: &FinishedResidue) -> Result<String, AllocError> {
-    let index = finished.index();
-    let modulus = finished.modulus();
-    let generator = finished.generator();
-    let residue = finished.residue();
-    format!(in heap;
-        "fill in residue {residue} of index {index} for ({modulus}, {generator}) from elsewhere"
-    )
-}
-
-fn book_text(heap: Global, call: &Call) -> Result<String, AllocError> {
-    match call {
-        BookCall::Open { kind, modulus } => open_text(heap, *kind, *modulus),
-        BookCall::CarryOn {
-            run,
-            arithmetic,
-            terms,
-        } => carry_text(heap, *run, arithmetic, *terms),
-        BookCall::CountOn {
-            run,
-            arithmetic,
-            source,
-            cells,
-            terms,
-        } => count_text(heap, *run, arithmetic, source, cells.len(), *terms),
-        BookCall::Finish { run, arithmetic } => finish_text(heap, *run, arithmetic),
-        BookCall::Tell { run } => format!(in heap; "tell run {run}"),
-        BookCall::Fill { run } => format!(in heap; "fill in run {run}"),
-        BookCall::FillWith { finished } => fill_with_text(heap, finished),
-        BookCall::Show { modulus } => format!(in heap; "show {modulus}"),
+impl fmt::Display for OnBook<'_> {
+    fn fmt<W: fmt::Write>(&self, f: &mut fmt::Formatter<W>) -> fmt::Result {
+        match self.0 {
+            BookCall::Open { kind, modulus } => write!(f, "open a {kind} run for {modulus}"),
+            BookCall::CarryOn {
+                run,
+                arithmetic,
+                terms,
+            } => {
+                let by = Brought::from(arithmetic);
+                write!(f, "carry run {run} on by {terms} terms, {by}")
+            }
+            BookCall::CountOn {
+                run,
+                arithmetic,
+                source,
+                cells,
+                terms,
+            } => {
+                let by = Brought::from(arithmetic);
+                let from = Brought::from(source);
+                let count = cells.len();
+                write!(
+                    f,
+                    "count run {run} on by {terms} terms, {by}, {from}, {count} cells"
+                )
+            }
+            BookCall::Finish { run, arithmetic } => {
+                let by = Brought::from(arithmetic);
+                write!(f, "finish run {run}, {by}")
+            }
+            BookCall::Tell { run } => write!(f, "tell run {run}"),
+            BookCall::Fill { run } => write!(f, "fill in run {run}"),
+            BookCall::FillWith { finished } => {
+                let residue = Residue(finished);
+                write!(f, "fill in {residue} from elsewhere")
+            }
+            BookCall::Show { modulus } => write!(f, "show {modulus}"),
+        }
     }
 }
 
@@ -103,10 +126,10 @@ pub(crate) fn texts(
 ) -> Result<Vec<String>, AllocError> {
     let mut texts = Vec::new(heap);
     for call in first {
-        texts.push(listing_text(heap, *call)?)?;
+        texts.push(OnListing(call).to_string(heap)?)?;
     }
     for call in then {
-        texts.push(book_text(heap, call)?)?;
+        texts.push(OnBook(call).to_string(heap)?)?;
     }
     Ok(texts)
 }

@@ -1,6 +1,7 @@
 // What the calls of the week bring: one of three arithmetics, one of three sources.
 use arithmetic::{Balanced, Either, Montgomery, Plain, Refusal};
 use digits::{Divider, Doubler, Reciprocal};
+use either::for_both;
 use session::BookCall;
 
 pub(crate) type AnyArithmetic = Either<Plain, Either<Montgomery, Balanced>>;
@@ -33,24 +34,49 @@ pub(crate) fn divider(modulus: u32) -> Result<AnySource, Refusal> {
     Ok(Either::Right(Either::Right(Divider::new(modulus)?)))
 }
 
-// The name of the side chosen.
-fn side<L, R>(either: &Either<L, R>, left: &'static str, right: &'static str) -> &'static str {
-    match either {
-        Either::Left(_) => left,
-        Either::Right(_) => right,
+// What is printed as the name of an arithmetic or a source.
+pub(crate) trait Named {
+    fn name(&self) -> &'static str;
+}
+
+impl Named for Plain {
+    fn name(&self) -> &'static str {
+        "plain"
     }
 }
 
-pub(crate) fn arithmetic_name(arithmetic: &AnyArithmetic) -> &'static str {
-    match arithmetic {
-        Either::Left(_) => "plain",
-        Either::Right(other) => side(other, "Montgomery", "balanced"),
+impl Named for Montgomery {
+    fn name(&self) -> &'static str {
+        "Montgomery"
     }
 }
 
-pub(crate) fn source_name(source: &AnySource) -> &'static str {
-    match source {
-        Either::Left(_) => "reciprocal",
-        Either::Right(other) => side(other, "doubler", "divider"),
+impl Named for Balanced {
+    fn name(&self) -> &'static str {
+        "balanced"
+    }
+}
+
+impl Named for Reciprocal {
+    fn name(&self) -> &'static str {
+        "reciprocal"
+    }
+}
+
+impl Named for Doubler {
+    fn name(&self) -> &'static str {
+        "doubler"
+    }
+}
+
+impl Named for Divider {
+    fn name(&self) -> &'static str {
+        "divider"
+    }
+}
+
+impl<L: Named, R: Named> Named for Either<L, R> {
+    fn name(&self) -> &'static str {
+        for_both!(self, side => side.name())
     }
 }

@@ -7,14 +7,13 @@ use theory::Kind;
 
 #[derive(Drop)]
 pub(crate) struct Calls {
-    heap: Global,
     list: Vec<Call>,
 }
 
 impl Calls {
     pub(crate) fn new(heap: Global) -> Calls {
         let list = Vec::new(heap);
-        Calls { heap, list }
+        Calls { list }
     }
 
     pub(crate) fn into_list(self) -> Vec<Call> {
@@ -52,7 +51,7 @@ impl Calls {
         source: AnySource,
         count: usize,
     ) -> Result<(), AllocError> {
-        let cells = vec![in self.heap; 0u64; count]?;
+        let cells = vec![in *self.list.allocator(); 0u64; count]?;
         self.put(BookCall::CountOn {
             run,
             arithmetic,

@@ -9,11 +9,6 @@ pub(crate) fn finished(index: u32, modulus: u32, generator: u32) -> Result<Finis
     let plain = Plain::new(modulus)?;
     let mut run = Run::open(Kind::Direct, index, modulus, generator)?;
     run.carry_on(&plain, LARGEST_SHARE)?;
-    match run.finish(&plain) {
-        Ok(finished) => Ok(finished),
-        Err(back) => {
-            let (refusal, _) = back;
-            Err(Stop::Refused(refusal))
-        }
-    }
+    let finished = run.finish(&plain).map_err(|(refusal, _)| refusal)?;
+    Ok(finished)
 }

@@ -12,7 +12,7 @@ mod week;
 
 use crate::asked::texts;
 use crate::entered::entered;
-use crate::shown::show_answer;
+use crate::shown::Shown;
 use crate::stop::Stop;
 use crate::week::week;
 use session::work;
@@ -24,7 +24,8 @@ fn main(rt: HostRuntime) -> Result<(), Stop> {
     let texts = texts(heap, &first, then.as_slice())?;
     let answers = work(heap, &first, then)?;
     for (text, answer) in texts.iter().zip(answers.iter()) {
-        show_answer(&rt, text.as_str(), *answer)?;
+        let answer = Shown(answer);
+        println!(rt; "{text}: {answer}")?;
     }
     Ok(())
 }

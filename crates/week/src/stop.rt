@@ -2,28 +2,14 @@
 use arithmetic::Refusal;
 use std::alloc::AllocError;
 use std::io;
+use thiserror::Error;
 
-#[derive(Debug, Drop)]
+#[derive(Debug, Drop, Error)]
 pub enum Stop {
-    Refused(Refusal),
-    Memory(AllocError),
-    Output(io::Error),
-}
-
-impl From<Refusal> for Stop {
-    fn from(refusal: Refusal) -> Stop {
-        Stop::Refused(refusal)
-    }
-}
-
-impl From<AllocError> for Stop {
-    fn from(error: AllocError) -> Stop {
-        Stop::Memory(error)
-    }
-}
-
-impl From<io::Error> for Stop {
-    fn from(error: io::Error) -> Stop {
-        Stop::Output(error)
-    }
+    #[error("refused: {0}")]
+    Refused(#[from] Refusal),
+    #[error("out of memory")]
+    Memory(#[from(alloc)] AllocError),
+    #[error("no output: {0}")]
+    Output(#[from] io::Error),
 }
