@@ -39,13 +39,8 @@ impl Case {
     }
 
     fn meets<W: Arithmetic>(self, run: Run, arithmetic: &W) -> Result<bool, Stop> {
-        match run.finish(arithmetic) {
-            Ok(finished) => Ok(finished.residue() == self.residue),
-            Err(back) => {
-                let (refusal, _) = back;
-                Err(Stop::Refused(refusal))
-            }
-        }
+        let finished = run.finish(arithmetic).map_err(|(refusal, _)| refusal)?;
+        Ok(finished.residue() == self.residue)
     }
 
     fn singly<W: Arithmetic>(self, kind: Kind, arithmetic: &W) -> Result<bool, Stop> {

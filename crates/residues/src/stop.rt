@@ -1,29 +1,19 @@
 // Why the program ends before its end: memory, input or output failed.
-use arithmetic::Refusal;
 use std::alloc::AllocError;
 use std::io;
+use thiserror::Error;
 
-#[derive(Debug, Drop)]
+#[derive(Debug, Drop, Error)]
 pub enum Stop {
+    #[error("out of memory")]
     Memory,
-    Refused(Refusal),
-    Stream(io::Error),
+    #[error("input or output failed: {0}")]
+    Stream(#[from] io::Error),
 }
 
+// by hand, as the derive would have the variant hold the error, which tells nothing, and print it
 impl From<AllocError> for Stop {
     fn from(_error: AllocError) -> Stop {
         Stop::Memory
-    }
-}
-
-impl From<Refusal> for Stop {
-    fn from(refusal: Refusal) -> Stop {
-        Stop::Refused(refusal)
-    }
-}
-
-impl From<io::Error> for Stop {
-    fn from(error: io::Error) -> Stop {
-        Stop::Stream(error)
     }
 }

@@ -32,16 +32,9 @@ fn carry<W: Arithmetic>(
 }
 
 fn finish<W: Arithmetic>(rt: &HostRuntime, run: Run, arithmetic: &W) -> Result<(), Stop> {
-    match run.finish(arithmetic) {
-        Ok(finished) => {
-            show_finished(rt, &finished)?;
-            Ok(())
-        }
-        Err(back) => {
-            let (refusal, _) = back;
-            Err(Stop::Refused(refusal))
-        }
-    }
+    let finished = run.finish(arithmetic).map_err(|(refusal, _)| refusal)?;
+    show_finished(rt, &finished)?;
+    Ok(())
 }
 
 // One share, counted in groups of eight where they fit into row and share.

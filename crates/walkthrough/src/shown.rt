@@ -1,18 +1,10 @@
 // What is printed of a run and of what it gives.
 use run::{FinishedResidue, Run};
 use std::io;
-use theory::Kind;
-
-fn name(kind: Kind) -> &'static str {
-    match kind {
-        Kind::Direct => "direct",
-        Kind::Doubling => "doubling",
-    }
-}
 
 // Of which kind, index and pair the run is, and how many terms it has.
 pub(crate) fn show_opened(rt: &HostRuntime, run: &Run) -> io::Result<()> {
-    let kind = name(run.kind());
+    let kind = run.kind();
     let index = run.index();
     let modulus = run.modulus();
     let generator = run.generator();
@@ -33,6 +25,6 @@ pub(crate) fn show_finished(rt: &HostRuntime, finished: &FinishedResidue) -> io:
     let index = finished.index();
     let modulus = finished.modulus();
     let residue = finished.residue();
-    let kind = name(finished.kind());
+    let kind = finished.kind();
     println!(rt; "{index} {modulus} {residue} {kind}")
 }

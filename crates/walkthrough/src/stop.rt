@@ -1,21 +1,12 @@
 // Why the walk ends before its end.
 use arithmetic::Refusal;
 use std::io;
+use thiserror::Error;
 
-#[derive(Debug, Drop)]
+#[derive(Debug, Drop, Error)]
 pub enum Stop {
-    Refused(Refusal),
-    Output(io::Error),
-}
-
-impl From<Refusal> for Stop {
-    fn from(refusal: Refusal) -> Stop {
-        Stop::Refused(refusal)
-    }
-}
-
-impl From<io::Error> for Stop {
-    fn from(error: io::Error) -> Stop {
-        Stop::Output(error)
-    }
+    #[error("refused: {0}")]
+    Refused(#[from] Refusal),
+    #[error("no output: {0}")]
+    Output(#[from] io::Error),
 }
