@@ -52,17 +52,9 @@ fn judge(first: u32, index: u32, records: &[Record]) -> Result<(), Fault>
     ensures answer { result_err result ≡ first_cause (restore_tests first index records.now) }
 {
     if records.len() > 1023 {
-        return Err(Fault {
-            record: 0,
-            layer: Layer::File(Damage::Length),
-        });
+        return Err(Fault::at(0, Damage::Length));
     }
-    if let Err(refusal) = try_index(index) {
-        return Err(Fault {
-            record: 0,
-            layer: Layer::Job(refusal),
-        });
-    }
+    try_index(index).map_err(|refusal| Fault::at(0, refusal))?;
     judge_chain(first, index, records)
 }
 
@@ -95,21 +87,12 @@ fn judge_record(index: u32, before: u32, number: u32, record: Record) -> Result<
     ensures answer { result_err result ≡ first_cause (record_tests index before number «record») }
 {
     if record.modulus <= before {
-        return Err(broken(number));
+        return Err(Fault::at(number, Damage::Chain));
     }
     if record.residue.is_some() {
-        return Err(Fault {
-            record: number,
-            layer: Layer::File(Damage::Residue),
-        });
+        return Err(Fault::at(number, Damage::Residue));
     }
-    if let Err(refusal) = try_pair(index, record.modulus, record.generator) {
-        return Err(Fault {
-            record: number,
-            layer: Layer::Job(refusal),
-        });
-    }
-    Ok(())
+    try_pair(index, record.modulus, record.generator).map_err(|refusal| Fault::at(number, refusal))
 }
 
 // The chain is broken at that record.
