@@ -1,11 +1,11 @@
 -- Lists of records: none of them, their numbers, and what every one of them passes.
--- Main statements: chained_none, numbered_at, number-more, every_at.
+-- Main statements: chained_none, numbered_at, numbered_some, numbered_none, every_at.
 -- Assumes nothing.
 use Rattle.std.proofs.Common.{◌≡◌, ℕ, zero, suc, ◌+◌, ◌-◌, ◌<◌, ◌≤◌, Bool, true, ◌≢◌, List, [], ◌∷◌, length, get_or, drop, Some, None, sym, refl, ap, ◌∙◌, subst, ⊎_elim, arith}
 use Rattle.std.specs.List.{slice_get}
 use Rattle.std.proofs.lemmas.List.{at_drop_more, at_drop_all}
 use Rattle.std.proofs.lemmas.Option.{slice_get-get_or}
-use Rattle.std.proofs.lemmas.Bool.{and_parts, and_from, eq-eqb, ne_eqb, cond-true, cond-false, cases_eq}
+use Rattle.std.proofs.lemmas.Bool.{and_parts, and_from, eq-eqb, ne_eqb, cond-true, cond-false, cases_eq, cases_lt}
 use Rattle.table.specs.declared.pair.Record.{Record}
 use Rattle.table.specs.Chain.{chained, rises, every, numbered, number_from, number_of, rows, row, head, modulus_in}
 
@@ -36,6 +36,28 @@ numbered_past rs (suc n) h = nth_past rs n (omega arith)
 
 pub numbered_zero : (rs : List Record) (n : ℕ) → n ≡ 0 → numbered rs n ≡ None
 numbered_zero rs n e = ap (numbered rs) e
+
+pub numbered_none : (rs : List Record) (n : ℕ) → n ≢ 0 → numbered rs n ≡ None → length rs < n
+numbered_none rs n ne none =
+    ⊎_elim
+    (λ (h : length rs < n). h)
+    (λ (h : n ≤ length rs).
+    let found : Some (get_or rs (n - 1) (head 0)) ≡ None = sym (numbered_at rs n (head 0) (omega arith) h) ∙ none in
+    absurd (let z : ◌≡◌ {A = ℕ} 0 1 = cc in omega arith))
+    (cases_lt (length rs) n)
+
+-- a record that was found by its number stands there
+pub numbered_some : (rs : List Record) (n : ℕ) (r d : Record) → numbered rs n ≡ Some r → (1 ≤ n) × (n ≤ length rs) × (get_or rs (n - 1) d ≡ r)
+numbered_some rs zero r d h = absurd (let z : ◌≡◌ {A = ℕ} 0 1 = cc in omega arith)
+numbered_some rs (suc n) r d h =
+    ⊎_elim
+    (λ (l : n < length rs).
+    let found : Some (get_or rs (suc n - 1) d) ≡ Some r = sym (numbered_at rs (suc n) d (omega arith) (omega arith)) ∙ h in
+    (omega arith, omega arith, cc))
+    (λ (l : length rs ≤ n).
+    let none : Some r ≡ None = sym h ∙ numbered_past rs (suc n) (omega arith) in
+    absurd (let z : ◌≡◌ {A = ℕ} 0 1 = cc in omega arith))
+    (cases_lt n (length rs))
 
 -- a search record by record: the modulus of record i + 1 is p, or it is not, or no record is left
 pub number_here : (rs : List Record) (p i : ℕ) (d : Record) → i < length rs → (get_or rs i d).modulus ≡ p → number_from (suc i) (drop i rs) p ≡ Some (suc i)

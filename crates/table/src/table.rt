@@ -4,6 +4,7 @@ mod entering;
 mod filling;
 mod restoring;
 mod telling;
+mod walk;
 
 ghost use Rattle.std.specs.Prelude.{◌≡◌, ◌≤◌, true, vec_len, vec_capacity};
 ghost use Rattle.table.specs.Chain.{chained, every};

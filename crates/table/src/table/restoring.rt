@@ -2,13 +2,13 @@
 ghost use Rattle.std.specs.Prelude.{◌≡◌, ◌+◌, ◌≤◌, ◌++◌, length, is_ok, if◌then◌else◌, vec_len, vec_capacity};
 ghost use Rattle.std.specs.Result.{result_err};
 ghost use Rattle.table.specs.Chain.{rows};
-ghost use Rattle.table.specs.Faults.{fault, record_tests, chain_tests, restore_tests};
+ghost use Rattle.table.specs.Faults.{record_tests, chain_tests, restore_tests};
 ghost use Rattle.arithmetic.specs.Causes.{first_cause};
 ghost use Rattle.table.specs.Tables.{contents, empty, holding};
 
 use super::RecordTable;
-use super::chain::next_after;
-use crate::fault::{Damage, Fault, Layer};
+use super::walk::Walk;
+use crate::fault::{Damage, Fault};
 use crate::pair::Record;
 use arithmetic::{try_index, try_pair};
 
@@ -61,24 +61,17 @@ fn judge(first: u32, index: u32, records: &[Record]) -> Result<(), Fault>
 fn judge_chain(first: u32, index: u32, records: &[Record]) -> Result<(), Fault>
     ensures answer { result_err result ≡ first_cause (chain_tests (rows first records.now) index (length records.now) (length records.now) 0) }
 {
-    let mut at = 0;
+    let mut walk = Walk::new(first, records);
     let mut before = 0;
-    for _step in 0..records.len() {
-        let next = next_after(first, records, at);
-        if next == 0 {
-            return Err(broken(at));
-        }
-        if next as usize > records.len() {
-            return Err(broken(next));
-        }
-        let record = records[next as usize - 1];
-        judge_record(index, before, next, record)?;
-        at = next;
+    while let Some((number, record)) = walk.next() {
+        judge_record(index, before, number, record)?;
         before = record.modulus;
     }
-    let next = next_after(first, records, at);
-    if next != 0 {
-        return Err(broken(next));
+    if walk.next != 0 {
+        return Err(Fault::at(walk.next, Damage::Chain));
+    }
+    if walk.left != 0 {
+        return Err(Fault::at(walk.at, Damage::Chain));
     }
     Ok(())
 }
@@ -93,14 +86,4 @@ fn judge_record(index: u32, before: u32, number: u32, record: Record) -> Result<
         return Err(Fault::at(number, Damage::Residue));
     }
     try_pair(index, record.modulus, record.generator).map_err(|refusal| Fault::at(number, refusal))
-}
-
-// The chain is broken at that record.
-fn broken(number: u32) -> Fault
-    ensures value { result ≡ fault number (Layer.File Damage.Chain) }
-{
-    Fault {
-        record: number,
-        layer: Layer::File(Damage::Chain),
-    }
 }

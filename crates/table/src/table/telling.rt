@@ -7,6 +7,7 @@ ghost use Rattle.table.specs.Tables.{contents};
 
 use super::RecordTable;
 use super::chain::pair_at;
+use super::walk::numbered;
 use crate::pair::{Pair, Record};
 
 impl RecordTable {
@@ -38,14 +39,12 @@ impl RecordTable {
     }
 
     // The record of that number, where there is one.
+    #[tactic(auto, using(crate::proofs::Listed::numbered_fits))]
     pub fn record(&self, number: u32) -> Option<Record>
         ensures value { result ≡ numbered (contents self.now).records number }
         ensures fit { PairFits (contents self.now).index result }
     {
-        if number == 0 || number as usize > self.records.len() {
-            return None;
-        }
-        Some(self.records[number as usize - 1])
+        numbered(self.records.as_slice(), number)
     }
 
     // The number of the record that has the modulus, where it is listed.

@@ -5,8 +5,8 @@ use Rattle.table.specs.Chain.{head, numbered}
 use Rattle.table.specs.Filling.{fillable, with_residue}
 use Rattle.table.specs.Fitness.{record_fits}
 use Rattle.table.specs.Tables.{holding}
-use Rattle.table.proofs.Fills.{numbered_some, filled_chain, filled_every, filled_fits}
-use Rattle.table.proofs.Records.{every_at}
+use Rattle.table.proofs.Fills.{filled_chain, filled_every, filled_fits}
+use Rattle.table.proofs.Records.{every_at, numbered_some}
 use Rattle.table.proofs.table.RecordTable.fill.Goals as goal
 
 -- the record that was lent is the one that was found
