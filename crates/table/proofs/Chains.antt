@@ -36,15 +36,15 @@ unfolding rises
 rises_none next modulus count i h = eq-eqb (next i) 0 h
 
 module _ (next modulus : ℕ → ℕ) (p : ℕ) where
-  place_on : (steps i : ℕ) → modulus (next i) < p → place next modulus p (suc steps) i ≡ place next modulus p steps (next i)
+  pub place_on : (steps i : ℕ) → modulus (next i) < p → place next modulus p (suc steps) i ≡ place next modulus p steps (next i)
   unfolding place
   place_on steps i h = cond-true _ _ _ (lt-ltb (modulus (next i)) p h)
 
-  place_here : (steps i : ℕ) → p ≤ modulus (next i) → place next modulus p (suc steps) i ≡ i
+  pub place_here : (steps i : ℕ) → p ≤ modulus (next i) → place next modulus p (suc steps) i ≡ i
   unfolding place
   place_here steps i h = cond-false _ _ _ (le-ltb (modulus (next i)) p h)
 
-  place_end : (i : ℕ) → place next modulus p zero i ≡ i
+  pub place_end : (i : ℕ) → place next modulus p zero i ≡ i
   unfolding place
   place_end i = refl
 

@@ -1,4 +1,5 @@
 // What a table is made of.
+ghost use Rattle.std.specs.Prelude.{◌≡◌};
 
 // A modulus and the generator listed with it.
 #[derive(Clone, Copy)]
@@ -15,4 +16,16 @@ pub struct Record {
     pub modulus: u32,
     pub generator: u32,
     pub residue: Option<u32>,
+}
+
+// The pair of a record.
+impl From<Record> for Pair {
+    ghost from_gives = { λ r pair. pair ≡ record { modulus = r.modulus; generator = r.generator } };
+
+    fn from(record: Record) -> Pair {
+        Pair {
+            modulus: record.modulus,
+            generator: record.generator,
+        }
+    }
 }

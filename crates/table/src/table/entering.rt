@@ -6,7 +6,7 @@ ghost use Rattle.table.specs.Entering.{enter_causes, Entered};
 ghost use Rattle.table.specs.Tables.{contents, empty};
 
 use super::RecordTable;
-use super::chain::{next_after, place_of, relink};
+use super::chain::relink;
 use crate::pair::Record;
 use arithmetic::{Refusal, try_index, try_pair};
 use std::alloc::{AllocError, Global};
@@ -42,8 +42,9 @@ impl RecordTable {
         ensures after { Entered (contents self.old) (contents self.new) modulus generator result }
     {
         self.admit(modulus, generator)?;
-        let at = place_of(self.first, self.records.as_slice(), modulus);
-        let next = next_after(self.first, self.records.as_slice(), at);
+        let chain = self.chain();
+        let at = chain.place_of(modulus);
+        let next = chain.after(at);
         let number = self.records.len() as u32 + 1;
         relink(&mut self.first, &mut self.records, at, number);
         self.records.push_reserved(Record {

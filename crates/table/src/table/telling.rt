@@ -6,7 +6,6 @@ ghost use Rattle.table.specs.Fitness.{PairFits};
 ghost use Rattle.table.specs.Tables.{contents};
 
 use super::RecordTable;
-use super::chain::pair_at;
 use super::walk::numbered;
 use crate::pair::{Pair, Record};
 
@@ -59,7 +58,7 @@ impl RecordTable {
     pub fn pair(&self, position: usize) -> Option<Pair>
         ensures value { result ≡ slice_get (chain_pairs (contents self.now)) position }
     {
-        pair_at(self.first, self.records.as_slice(), position)
+        self.chain().pair_at(position)
     }
 }
 
