@@ -66,10 +66,8 @@ fn number_of(records: &[Record], modulus: u32) -> Option<u32>
     requires { length records.now ≤ 1023 }
     ensures value { result ≡ number_of records.now modulus }
 {
-    for (i, record) in records.iter().enumerate() {
-        if record.modulus == modulus {
-            return Some(i as u32 + 1);
-        }
-    }
-    None
+    let place = records
+        .iter()
+        .position(|record| record.modulus == modulus)?;
+    Some(place as u32 + 1)
 }
