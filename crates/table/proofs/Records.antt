@@ -1,10 +1,10 @@
 -- Lists of records: none of them, their numbers, and what every one of them passes.
--- Main statements: chained_none, numbered_at, numbered_some, numbered_none, every_at.
+-- Main statements: chained_none, numbered_at, numbered_some, numbered_none, number_position, every_at.
 -- Assumes nothing.
 use Rattle.std.proofs.Common.{◌≡◌, ℕ, zero, suc, ◌+◌, ◌-◌, ◌<◌, ◌≤◌, Bool, true, false, cond, not, ◌==◌, nat_lt, ◌≢◌, List, [], ◌∷◌, length, get_or, Some, None, Option, sym, refl, ap, ◌∙◌, subst, ⊎_elim, arith}
 use Rattle.std.specs.List.{slice_get, position, position_or_len}
 use Rattle.std.specs.Option.{option_map}
-use Rattle.std.proofs.lemmas.Option.{slice_get-get_or}
+use Rattle.std.proofs.lemmas.Option.{slice_get-get_or, slice_get_past}
 use Rattle.std.proofs.lemmas.Bool.{and_parts, and_from, eq-eqb, ne_eqb, cond-true, cond-false, cases_eq, cases_lt, lt-ltb, le-ltb}
 use Rattle.table.specs.declared.pair.Record.{Record}
 use Rattle.table.specs.Chain.{chained, rises, every, numbered, number_from, number_of, rows, row, head, modulus_in}
@@ -26,16 +26,11 @@ numbered_at rs (suc n) d low high =
     slice_get-get_or rs n d (omega arith) ∙ ap (λ (i : ℕ). Some (get_or rs i d)) e
 
 pub nth_past : {X : Type 0} (rs : List X) (i : ℕ) → length rs ≤ i → slice_get rs i ≡ None
-nth_past [] i h = refl
-nth_past (r ∷ rs) zero h = absurd (omega arith)
-nth_past (r ∷ rs) (suc i) h = nth_past rs i (omega arith)
+nth_past rs i h = slice_get_past rs i h
 
 pub numbered_past : (rs : List Record) (n : ℕ) → length rs < n → numbered rs n ≡ None
 numbered_past rs zero h = refl
 numbered_past rs (suc n) h = nth_past rs n (omega arith)
-
-pub numbered_zero : (rs : List Record) (n : ℕ) → n ≡ 0 → numbered rs n ≡ None
-numbered_zero rs n e = ap (numbered rs) e
 
 pub numbered_none : (rs : List Record) (n : ℕ) → n ≢ 0 → numbered rs n ≡ None → length rs < n
 numbered_none rs n ne none =
