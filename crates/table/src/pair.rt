@@ -2,7 +2,7 @@
 ghost use Rattle.std.specs.Prelude.{◌≡◌};
 
 // A modulus and the generator listed with it.
-#[derive(Clone, Copy)]
+#[derive(Clone, Copy, PartialEq, Eq, Hash, Debug)]
 pub struct Pair {
     pub modulus: u32,
     pub generator: u32,
@@ -10,7 +10,7 @@ pub struct Pair {
 
 // A listed pair with the number of the record after it in the chain, 0 at the chain's end, and its residue, none while
 // the record waits for it.
-#[derive(Clone, Copy)]
+#[derive(Clone, Copy, Default, PartialEq, Eq, Hash, Debug)]
 pub struct Record {
     pub next: u32,
     pub modulus: u32,
