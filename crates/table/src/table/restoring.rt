@@ -17,9 +17,7 @@ impl RecordTable {
     pub fn reset(&mut self)
         ensures after { contents self.new ≡ empty 2 }
     {
-        self.records.clear();
-        self.first = 0;
-        self.index = 2;
+        self.clear(2);
     }
 
     // Holds these records, of which none has a residue, with this first of the chain and this index. Where they have a
@@ -37,6 +35,7 @@ impl RecordTable {
     }
 }
 
+// `extend_from_slice` may want for memory, and this may not: there is room.
 fn copy_all(into: &mut Vec<Record>, records: &[Record])
     requires { vec_len into.old + length records.now ≤ vec_capacity into.old }
     ensures items { into.new.items ≡ into.old.items ++ records.now }

@@ -47,6 +47,7 @@ impl RecordTable {
     }
 
     // The number of the record that has the modulus, where it is listed.
+    #[tactic(auto, using(crate::proofs::Listed::only_one))]
     pub fn find(&self, modulus: u32) -> Option<u32>
         ensures value { result ≡ number_of (contents self.now).records modulus }
         ensures only { Only (contents self.now).records modulus result }
