@@ -22,6 +22,7 @@ impl RecordTable {
 
     // Holds these records, of which none has a residue, with this first of the chain and this index. Where they have a
     // fault, the table is empty then, with index 2.
+    #[tactic(auto, using(crate::proofs::Judged::restored))]
     pub fn restore(&mut self, first: u32, index: u32, records: &[Record]) -> Result<(), Fault>
         ensures answer { result_err result ≡ first_cause (restore_tests first index records.now) }
         ensures after { contents self.new ≡ (if is_ok result then holding first index records.now else empty 2) }

@@ -67,8 +67,6 @@ fn number_of(records: &[Record], modulus: u32) -> Option<u32>
     requires { length records.now ≤ 1023 }
     ensures value { result ≡ number_of records.now modulus }
 {
-    let place = records
-        .iter()
-        .position(|record| record.modulus == modulus)?;
+    let place = records.iter().position(|record| record.modulus == modulus)?;
     Some(place as u32 + 1)
 }
