@@ -1,11 +1,10 @@
 -- Rows taken from the front, and their records.
--- Main statements: rows_none, rows_some, row_put, head_words, others_records.
+-- Main statements: rows_none, rows_some, head_words, others_records.
 -- Assumes nothing.
-use Rattle.std.proofs.Common.{◌≡◌, ℕ, zero, suc, ◌/◌, ◌<◌, ◌≤◌, List, [], ◌∷◌, map, length, get_or, drop, sym, refl, ap, ◌∙◌, ⊎_elim, arith, length-drop}
+use Rattle.std.proofs.Common.{◌≡◌, ℕ, zero, suc, ◌/◌, ◌<◌, ◌≤◌, List, [], ◌∷◌, map, length, drop, sym, refl, ap, ◌∙◌, ⊎_elim, arith, length-drop}
 use Rattle.std.proofs.lemmas.Bool.{cases_lt}
 use Rattle.table.specs.declared.pair.Record.{Record}
 use Rattle.file.specs.declared.row.Row.{Row}
-use Rattle.file.specs.Layout.{word_bytes, row_bytes}
 use Rattle.file.specs.Reading.{word_at, record_at, records_in, pair_count}
 use Rattle.file.specs.Rows.{row_at, rows_in, rows_of, record_of}
 
@@ -55,20 +54,6 @@ pub records_of_rows : (n : ℕ) (bytes : List ℕ) → map record_of (rows_in n 
 unfolding rows_in row_at records_in record_at
 records_of_rows zero bytes = refl
 records_of_rows (suc n) bytes = ap (λ (rs : List Record). record_of (row_at bytes) ∷ rs) (records_of_rows n (drop 16 bytes))
-
--- the bytes of four words, read off one by one
-pub row_put : (n m g r : List ℕ) (a b c d : ℕ) → n ≡ word_bytes a → m ≡ word_bytes b → g ≡ word_bytes c → r ≡ word_bytes d
-    → get_or n 0 0 ∷ get_or n 1 0 ∷ get_or n 2 0 ∷ get_or n 3 0
-    ∷ get_or m 0 0 ∷ get_or m 1 0 ∷ get_or m 2 0 ∷ get_or m 3 0
-    ∷ get_or g 0 0 ∷ get_or g 1 0 ∷ get_or g 2 0 ∷ get_or g 3 0
-    ∷ get_or r 0 0 ∷ get_or r 1 0 ∷ get_or r 2 0 ∷ get_or r 3 0 ∷ []
-    ≡ row_bytes a b c d
-unfolding word_bytes row_bytes
-row_put n m g r a b c d p q s t =
-    λ i. get_or (p i) 0 0 ∷ get_or (p i) 1 0 ∷ get_or (p i) 2 0 ∷ get_or (p i) 3 0
-    ∷ get_or (q i) 0 0 ∷ get_or (q i) 1 0 ∷ get_or (q i) 2 0 ∷ get_or (q i) 3 0
-    ∷ get_or (s i) 0 0 ∷ get_or (s i) 1 0 ∷ get_or (s i) 2 0 ∷ get_or (s i) 3 0
-    ∷ get_or (t i) 0 0 ∷ get_or (t i) 1 0 ∷ get_or (t i) 2 0 ∷ get_or (t i) 3 0 ∷ []
 
 length-rows_in : (n : ℕ) (bytes : List ℕ) → length (rows_in n bytes) ≡ n
 unfolding rows_in

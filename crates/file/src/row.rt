@@ -20,6 +20,7 @@ pub(crate) struct Row {
 }
 
 impl Row {
+    #[tactic(auto, unfolding(crate::specs::Layout::row_bytes, crate::specs::Layout::word_bytes))]
     pub(crate) fn to_bytes(self) -> [u8; 16]
         ensures value { result ≡ row_bytes self.next self.modulus self.generator self.residue }
     {
@@ -82,6 +83,7 @@ impl<'a> Iterator for Rows<'a> {
 
     ghost remaining = { item_count (λ rows. rows_of rows.0.now) };
 
+    #[tactic(auto, using(crate::proofs::Rowing::rows_none))]
     fn next(&mut self) -> Option<Row> {
         let [
             n0,

@@ -1,13 +1,8 @@
 use Rattle.std.proofs.Common.{length, ap, arith}
 use Rattle.std.proofs.lemmas.List.{take_rest}
 use Rattle.file.specs.Reading.{word_at}
-use Rattle.file.proofs.Rowing.{rows_none, rows_some, row_of_words}
+use Rattle.file.proofs.Rowing.{rows_some, row_of_words}
 use Rattle.file.proofs.row.RowsIterator.next.Goals as goal
-
-pub returns-in_default-clause-steps : goal.returns-in_default-clause-steps
-returns-in_default-clause-steps c =
-    let none = rows_none c.args.self.now.0.now (omega (arith, c.in_default.len_below)) in
-    (none, none)
 
 pub returns-clause-steps : goal.returns-clause-steps
 unfolding word_at
