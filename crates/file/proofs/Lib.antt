@@ -1,3 +1,4 @@
 mod Placing
 pub mod Decoding
 pub mod Encoding
+mod Rowing

@@ -2,6 +2,7 @@
 #![tactic(auto)]
 
 mod reading;
+mod row;
 mod writing;
 
 pub use reading::read;

@@ -1,7 +1,7 @@
 -- Rising chains, and a record put into one. Stated of any next and any pairs, so that no list is taken apart.
 -- Main statements: rises_step, place_stands, inserted.
 -- Assumes nothing.
-use Rattle.std.proofs.Common.{◌≡◌, ℕ, zero, suc, ◌+◌, ◌-◌, ◌<◌, ◌≤◌, true, ◌≢◌, List, [], ◌∷◌, map, length, get_or, sym, refl, ap, ◌∙◌, subst, ⊎_elim, arith}
+use Rattle.std.proofs.Common.{◌≡◌, ℕ, zero, suc, ◌<◌, ◌≤◌, true, ◌≢◌, List, [], ◌∷◌, map, length, get_or, sym, refl, ap, ◌∙◌, subst, ⊎_elim, arith}
 use Rattle.std.proofs.lemmas.Bool.{and_parts, and_from, ltb-true, lt-ltb, le-ltb, leb-true, le-leb, eqb-true, eq-eqb, cases_lt, cond-true, cond-false}
 use Rattle.table.specs.declared.pair.Pair.{Pair}
 use Rattle.table.specs.Chain.{rises, walk, place, insert}
@@ -36,15 +36,15 @@ unfolding rises
 rises_none next modulus count i h = eq-eqb (next i) 0 h
 
 module _ (next modulus : ℕ → ℕ) (p : ℕ) where
-  place_on : (steps i : ℕ) → modulus (next i) < p → place next modulus p (suc steps) i ≡ place next modulus p steps (next i)
+  pub place_on : (steps i : ℕ) → modulus (next i) < p → place next modulus p (suc steps) i ≡ place next modulus p steps (next i)
   unfolding place
   place_on steps i h = cond-true _ _ _ (lt-ltb (modulus (next i)) p h)
 
-  place_here : (steps i : ℕ) → p ≤ modulus (next i) → place next modulus p (suc steps) i ≡ i
+  pub place_here : (steps i : ℕ) → p ≤ modulus (next i) → place next modulus p (suc steps) i ≡ i
   unfolding place
   place_here steps i h = cond-false _ _ _ (le-ltb (modulus (next i)) p h)
 
-  place_end : (i : ℕ) → place next modulus p zero i ≡ i
+  pub place_end : (i : ℕ) → place next modulus p zero i ≡ i
   unfolding place
   place_end i = refl
 
@@ -224,48 +224,11 @@ module _ (next next' : ℕ → ℕ) (pair pair' : ℕ → Pair) (count at : ℕ)
       ))
       (cases_lt (m (next i)) x.modulus)
 
--- going along the chain for the place of p: the record i is reached, so many steps are left, and the place is still ahead
-abbrev pub Reached : (ℕ → ℕ) → (ℕ → ℕ) → ℕ → ℕ → ℕ → ℕ → Type 0
-Reached next modulus count p left i =
-    (i ≤ count) × (modulus i < p) × (rises next modulus count left i ≡ true) × (place next modulus p left i ≡ place next modulus p count 0)
-
-module _ (next modulus : ℕ → ℕ) (count p : ℕ) where
-  -- one step less is left
-  pub reached_less : (n step i : ℕ) → step < n → Reached next modulus count p (n - step) i → Reached next modulus count p (suc (n - (step + 1))) i
-  reached_less n step i h r =
-      let e : n - step ≡ suc (n - (step + 1)) = omega arith in
-      subst (λ (left : ℕ). Reached next modulus count p left i) e r
-
-  pub reached_step : (left i : ℕ) → Reached next modulus count p (suc left) i → Step next modulus count i
-  reached_step left i r = (rises_step next modulus count left i r.2).0
-
-  pub reached_on : (left i : ℕ) → modulus (next i) < p → Reached next modulus count p (suc left) i → Reached next modulus count p left (next i)
-  reached_on left i h r =
-      let step = rises_step next modulus count left i r.2 in
-      (step.0.1, h, step.1, sym (place_on next modulus p left i h) ∙ r.3)
-
-  pub reached_here : (left i : ℕ) → p ≤ modulus (next i) → Reached next modulus count p (suc left) i → i ≡ place next modulus p count 0
-  reached_here left i h r = sym (place_here next modulus p left i h) ∙ r.3
-
-  pub reached_end : (i : ℕ) → Reached next modulus count p 0 i → i ≡ place next modulus p count 0
-  reached_end i r = sym (place_end next modulus p i) ∙ r.3
-
 -- the records of a walk, one by one
 pub length-walk : (next : ℕ → ℕ) (steps i : ℕ) → length (walk next steps i) ≡ steps
 unfolding walk
 length-walk next zero i = refl
 length-walk next (suc steps) i = ap suc (length-walk next steps (next i))
-
-pub walk_first : (next : ℕ → ℕ) (steps i : ℕ) → 0 < steps → get_or (walk next steps i) 0 0 ≡ next i
-unfolding walk
-walk_first next zero i h = absurd (omega arith)
-walk_first next (suc steps) i h = refl
-
-pub walk_more : (next : ℕ → ℕ) (steps i j : ℕ) → suc j < steps → get_or (walk next steps i) (suc j) 0 ≡ next (get_or (walk next steps i) j 0)
-unfolding walk
-walk_more next zero i j h = absurd (omega arith)
-walk_more next (suc steps) i zero h = walk_first next steps (next i) (omega arith)
-walk_more next (suc steps) i (suc j) h = walk_more next steps (next i) j (omega arith)
 
 pub walk_within : (next modulus : ℕ → ℕ) (count steps i j : ℕ) → rises next modulus count steps i ≡ true → j < steps
     → (1 ≤ get_or (walk next steps i) j 0) × (get_or (walk next steps i) j 0 ≤ count)

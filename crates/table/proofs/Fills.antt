@@ -1,28 +1,15 @@
 -- A record given its residue: links, moduli and fitness stay.
--- Main statements: numbered_some, filled_chain, filled_fits.
+-- Main statements: filled_chain, filled_every, filled_fits.
 -- Assumes nothing.
-use Rattle.std.proofs.Common.{◌≡◌, ℕ, zero, suc, ◌-◌, ◌<◌, ◌≤◌, Bool, true, List, length, get_or, set, Some, None, sym, refl, ap, ◌∙◌, subst, ⊎_elim, arith}
+use Rattle.std.proofs.Common.{◌≡◌, ℕ, zero, suc, ◌<◌, Bool, true, List, length, get_or, set, sym, refl, ap, ◌∙◌, subst, ⊎_elim, arith}
 use mathlib.Core.Path.{fun_ext}
 use Rattle.std.proofs.lemmas.List.{length-set, get_or-set_same, get_or-set_other}
-use Rattle.std.proofs.lemmas.Bool.{and_parts, and_from, cases_eq, cases_lt, lt-ltb}
+use Rattle.std.proofs.lemmas.Bool.{and_parts, and_from, cases_eq, lt-ltb}
 use Rattle.table.specs.declared.pair.Record.{Record}
-use Rattle.table.specs.Chain.{rises, chained, rows, row, head, next_in, modulus_in, numbered, every}
+use Rattle.table.specs.Chain.{rises, chained, rows, row, head, next_in, modulus_in, every}
 use Rattle.table.specs.Filling.{with_residue}
 use Rattle.table.specs.Fitness.{record_fits}
-use Rattle.table.proofs.Records.{numbered_at, numbered_past, every_at, every_from}
-
--- a record that was found by its number stands there
-pub numbered_some : (rs : List Record) (n : ℕ) (r d : Record) → numbered rs n ≡ Some r → (1 ≤ n) × (n ≤ length rs) × (get_or rs (n - 1) d ≡ r)
-numbered_some rs zero r d h = absurd (let z : ◌≡◌ {A = ℕ} 0 1 = cc in omega arith)
-numbered_some rs (suc n) r d h =
-    ⊎_elim
-    (λ (l : n < length rs).
-    let found : Some (get_or rs (suc n - 1) d) ≡ Some r = sym (numbered_at rs (suc n) d (omega arith) (omega arith)) ∙ h in
-    (omega arith, omega arith, cc))
-    (λ (l : length rs ≤ n).
-    let none : Some r ≡ None = sym h ∙ numbered_past rs (suc n) (omega arith) in
-    absurd (let z : ◌≡◌ {A = ℕ} 0 1 = cc in omega arith))
-    (cases_lt n (length rs))
+use Rattle.table.proofs.Records.{every_at, every_from}
 
 module _ (first : ℕ) (rs : List Record) (i : ℕ) (x : Record) (within : i < length rs) where
   -- what a record and the one in its place have alike, all rows have alike

@@ -1,15 +1,17 @@
 -- The faults along a chain, step by step, and what a chain without a fault is.
 -- Main statements: test_early, test_far, test_bad, test_on, test_over, test_end, sound_chain, chain_sound, restored.
 -- Assumes nothing.
-use Rattle.std.proofs.Common.{◌≡◌, ℕ, zero, suc, ◌<◌, ◌≤◌, true, not, eqb, ◌≢◌, List, ◌++◌, length, get_or, is_some, Some, None, Option, sym, refl, ◌∙◌, arith}
+use Rattle.std.proofs.Common.{◌≡◌, ℕ, zero, suc, ◌<◌, ◌≤◌, Bool, true, false, cond, not, eqb, ◌≢◌, List, [], ◌∷◌, ◌++◌, length, get_or, is_some, Some, None, Option, sym, refl, ◌∙◌, arith}
 use Rattle.std.specs.List.{AllByRecursion as All}
 use Rattle.std.proofs.lemmas.Bool.{and_parts, and_from, cond-true, cond-false, eq-eqb, ne_eqb, eqb-true, eqb-false, lt-ltb, le-ltb, ltb-false, leb-false, lt-leb, not-false, not_from_true, not_from_false}
+use Rattle.std.specs.Option.{option_map}
+use Rattle.arithmetic.specs.declared.refusal.Refusal.{Refusal}
 use Rattle.table.specs.declared.fault.Damage.TheVariants.{Chain}
 use Rattle.table.specs.declared.fault.Fault.{Fault}
-use Rattle.table.specs.declared.fault.Layer.TheVariants.{File}
+use Rattle.table.specs.declared.fault.Layer.TheVariants.{File, Job}
 use Rattle.table.specs.declared.pair.Record.{Record}
 use Rattle.table.specs.Chain.{rises, chained, walk, rows, row, head, next_in, modulus_in, every}
-use Rattle.table.specs.Faults.{fault, record_tests, chain_tests, restore_tests}
+use Rattle.table.specs.Faults.{fault, of_job, record_tests, chain_tests, restore_tests}
 use Rattle.arithmetic.specs.Causes.{first_cause, index_stands, modulus_fits, generator_fits, index_fits}
 use Rattle.table.specs.Fitness.{record_fits, record_waits, residue_fits}
 use Rattle.table.proofs.Chains.{Step, rises_step, rises_more, rises_end, rises_none}
@@ -51,6 +53,21 @@ passes_to k before i r h =
         (not_from_true (modulus_fits r.modulus) c.0, (not_from_true (generator_fits r.modulus r.generator) c.1, (not_from_true (index_fits r.modulus k) b.1, tt))),
       ),
     )
+
+-- the first cause of a job, as a fault
+as_fault : ℕ → Option Refusal → Option Fault
+as_fault i o = option_map (λ (r : Refusal). fault i (Job r)) o
+
+by_test : (i : ℕ) (b : Bool) (r : Refusal) (o : Option Refusal) (p : Option Fault) → p ≡ as_fault i o
+    → cond b (Some (fault i (Job r))) p ≡ as_fault i (cond b (Some r) o)
+unfolding as_fault
+by_test i true r o p h = refl
+by_test i false r o p h = h
+
+pub job_cause : (i : ℕ) (causes : List (Bool × Refusal)) → first_cause (of_job i causes) ≡ option_map (λ (r : Refusal). fault i (Job r)) (first_cause causes)
+unfolding as_fault
+job_cause i [] = refl
+job_cause i (x ∷ xs) = by_test i x.0 x.1 (first_cause xs) (first_cause (of_job i xs)) (job_cause i xs)
 
 module _ (rs : List Record) (k count : ℕ) where
   -- the chain ends while records are left

@@ -6,3 +6,4 @@ pub mod Linked
 pub mod Judged
 pub mod Fills
 pub mod Listed
+pub mod Walks

@@ -1,15 +1,15 @@
 -- What holds of all records of a table: their moduli differ, and their pairs are fit.
--- Main statements: moduli_differ, pair_fits, only_one, decides_modulus, decides_generator.
+-- Main statements: moduli_differ, pair_fits, numbered_fits, only_one, decides_modulus, decides_generator.
 -- Assumes nothing.
 use Rattle.std.proofs.Common.{◌≡◌, ℕ, suc, ◌+◌, ◌-◌, ◌%◌, ◌<◌, true, ◌&&◌, eqb, leb, List, [], ◌∷◌, length, get_or, Some, None, Decides, Option, sym, ap, ◌∙◌, ⊎_elim, arith}
 use Rattle.std.proofs.lemmas.Bool.{and_parts, and_from, eqb-true, eq-eqb, ne_eqb, leb-true, le-leb, cases_eq, cond-true, cond-false}
 use Rattle.theory.specs.Pairs.{FitModulus, FitGenerator, Fit}
 use Rattle.table.specs.declared.pair.Record.{Record}
-use Rattle.table.specs.Chain.{chained, rows, head, next_in, modulus_in, number_from, number_of, Only}
+use Rattle.table.specs.Chain.{chained, rows, head, next_in, modulus_in, number_from, number_of, numbered, every, Only}
 use Rattle.arithmetic.specs.Causes.{index_stands, modulus_fits, generator_fits}
-use Rattle.table.specs.Fitness.{record_fits}
+use Rattle.table.specs.Fitness.{record_fits, PairFits}
 use Rattle.table.proofs.Meetings.{apart}
-use Rattle.table.proofs.Records.{unlisted}
+use Rattle.table.proofs.Records.{numbered_some, every_at, unlisted}
 
 -- two records of a table have two moduli
 pub moduli_differ : (first : ℕ) (rs : List Record) → chained first rs ≡ true → (i j : ℕ) → i < length rs → j < length rs
@@ -47,6 +47,14 @@ pair_fits k r stands fits =
       (decides_generator r.modulus r.generator).0 c.1,
       (eqb-true (k % 2) 0 e.0, leb-true 2 k e.1, leb-true k (r.modulus - 3) b.1),
     )
+
+-- and so has one that is found by its number
+pub numbered_fits : (k : ℕ) (rs : List Record) (n : ℕ) (o : Option Record) → index_stands k ≡ true → every (record_fits k) rs ≡ true
+    → o ≡ numbered rs n → PairFits k o
+numbered_fits k rs n None stands all h = tt
+numbered_fits k rs n (Some r) stands all h =
+    let at = numbered_some rs n r (head 0) (sym h) in
+    pair_fits k r stands (ap (record_fits k) (sym at.2) ∙ every_at (record_fits k) rs (n - 1) (head 0) all (omega (arith, at.0, at.1)))
 
 -- the record found has the modulus
 has_it : (m : ℕ) (rs : List Record) (p n : ℕ) (d : Record) → number_from m rs p ≡ Some n → (i : ℕ) × (i < length rs) × (m + i ≡ n) × ((get_or rs i d).modulus ≡ p)

@@ -5,3 +5,4 @@ pub mod Tables
 pub mod Numbers
 pub mod Faults
 pub mod Filling
+pub mod Walk

@@ -1,10 +1,11 @@
 // What is wrong with a file of records, and where.
 ghost use Rattle.std.specs.Prelude.{◌≡◌};
 ghost use Rattle.table.specs.Numbers.{damage_number, fault_number};
+ghost use Rattle.table.specs.declared.fault.Layer.TheVariants.{File, Job};
 
 use arithmetic::Refusal;
 
-#[derive(Clone, Copy, Debug)]
+#[derive(Clone, Copy, PartialEq, Eq, Debug)]
 pub struct Fault {
     // the record looked at, 0 where it is the head or the file as a whole
     pub record: u32,
@@ -12,38 +13,60 @@ pub struct Fault {
 }
 
 // A fault of the file itself, or a refusal of the job that it tells.
-#[derive(Clone, Copy, Debug)]
+#[derive(Clone, Copy, PartialEq, Eq, Debug)]
 pub enum Layer {
     File(Damage),
     Job(Refusal),
 }
 
-#[derive(Clone, Copy, Debug)]
+#[derive(Clone, Copy, PartialEq, Eq, Hash, Debug)]
 pub enum Damage {
     // the length is no multiple of 16, or outside 16 to 16384
-    Length,
+    Length = 19,
     // the head tells another number of pairs than the length, or its fourth word is not 0
-    Head,
+    Head = 20,
     // the chain leaves the records, does not rise, goes on too long or ends early
-    Chain,
+    Chain = 21,
     // a residue word is not the empty mark
-    Residue,
+    Residue = 22,
 }
 
 impl Damage {
     pub fn number(self) -> u8
         ensures value { result ≡ damage_number self }
     {
-        match self {
-            Damage::Length => 19,
-            Damage::Head => 20,
-            Damage::Chain => 21,
-            Damage::Residue => 22,
-        }
+        self as u8
+    }
+}
+
+impl From<Damage> for Layer {
+    ghost from_gives = { λ damage layer. layer ≡ File damage };
+
+    fn from(damage: Damage) -> Layer {
+        Layer::File(damage)
+    }
+}
+
+impl From<Refusal> for Layer {
+    ghost from_gives = { λ refusal layer. layer ≡ Job refusal };
+
+    fn from(refusal: Refusal) -> Layer {
+        Layer::Job(refusal)
     }
 }
 
 impl Fault {
+    // What is wrong with the record of that number, or with the head or the file as a whole at 0.
+    pub fn at<L: Into<Layer>>(number: u32, cause: L) -> Fault
+        ensures number { result.«record» ≡ number }
+        ensures layer { L.converts cause result.layer }
+    {
+        Fault {
+            record: number,
+            layer: cause.into(),
+        }
+    }
+
     pub fn number(self) -> u8
         ensures value { result ≡ fault_number self }
     {

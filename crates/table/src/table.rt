@@ -4,6 +4,7 @@ mod entering;
 mod filling;
 mod restoring;
 mod telling;
+mod walk;
 
 ghost use Rattle.std.specs.Prelude.{◌≡◌, ◌≤◌, true, vec_len, vec_capacity};
 ghost use Rattle.table.specs.Chain.{chained, every};
@@ -13,7 +14,8 @@ ghost use Rattle.table.specs.Fitness.{record_fits};
 use crate::pair::Record;
 
 // Record numbers start at 1, in order of entering; `first` is the first of the chain, 0 where there is none. The memory
-// of a full table is reserved when it is made, so that entering cannot want for it.
+// of a full table is reserved when it is made, so that entering cannot want for it. So the chain is links by number, as
+// a file tells them, and no map: that would allocate at each entry.
 #[derive(Drop)]
 pub struct RecordTable {
     first: u32,

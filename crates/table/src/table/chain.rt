@@ -1,40 +1,71 @@
-// Going along the chain. The head counts as record 0: what comes after it is the first record.
-ghost use Rattle.std.specs.Prelude.{◌≡◌, ◌<◌, ◌≤◌, true, length, vec_len, vec_capacity, slice_index, slice_set};
+// The chain of a table: its records in rising order of modulus. The head counts as record 0: what comes after it is the
+// first record.
+ghost use Rattle.std.specs.Prelude.{◌≡◌, ◌≤◌, true, length, vec_items, vec_len, vec_capacity, slice_set};
 ghost use Rattle.std.specs.List.{slice_get};
-ghost use Rattle.table.specs.Chain.{chained, rows, row, next_in, modulus_in, pairs_along, place, walk, relinked};
+ghost use Rattle.table.specs.Chain.{chained, rows, row, next_in, modulus_in, pairs_along, place, relinked};
 
+use super::RecordTable;
+use super::walk::{Walk, numbered};
 use crate::pair::{Pair, Record};
 
-// The record after the one numbered `at`, 0 at the chain's end.
-pub(super) fn next_after(first: u32, records: &[Record], at: u32) -> u32
-    requires { at ≤ length records.now }
-    ensures value { result ≡ next_in (rows first records.now) at }
-{
-    if at == 0 {
-        first
-    } else {
-        records[at as usize - 1].next
-    }
+// The number of the first record, and the records, each with the number of the one after it.
+#[derive(Clone, Copy)]
+pub(super) struct Chain<'a> {
+    first: u32,
+    records: &'a [Record],
+    ghost rising: { chained first records.now ≡ true },
 }
 
-// The record after which a pair of the modulus comes.
-pub(super) fn place_of(first: u32, records: &[Record], modulus: u32) -> u32
-    requires rising { chained first records.now ≡ true }
-    requires above { 0 < modulus }
-    ensures value { result ≡ place (next_in (rows first records.now)) (modulus_in (rows first records.now)) modulus (length records.now) 0 }
-{
-    let mut at = 0;
-    for _step in 0..records.len() {
-        let next = next_after(first, records, at);
-        if records[next as usize - 1].modulus >= modulus {
-            return at;
+impl RecordTable {
+    pub(super) fn chain(&self) -> Chain<'_>
+        ensures first { result.first ≡ self.now.first }
+        ensures records { result.records.now ≡ vec_items self.now.records }
+    {
+        Chain {
+            first: self.first,
+            records: self.records.as_slice(),
         }
-        at = next;
     }
-    at
 }
 
-// Has the chain go on from the record `at` to the record `next`.
+impl<'a> Chain<'a> {
+    fn walk(&self) -> Walk<'a>
+        ensures records { result.records.now ≡ self.now.records.now }
+        ensures next { result.next ≡ self.now.first }
+        ensures left { result.left ≡ length self.now.records.now }
+    {
+        Walk::new(self.first, self.records)
+    }
+
+    // The record after the one numbered `at`, 0 at the chain's end.
+    pub(super) fn after(&self, at: u32) -> u32
+        requires { at ≤ length self.now.records.now }
+        ensures value { result ≡ next_in (rows self.now.first self.now.records.now) at }
+    {
+        numbered(self.records, at).map_or(self.first, |record| record.next)
+    }
+
+    // The record after which a pair of the modulus comes.
+    pub(super) fn place_of(&self, modulus: u32) -> u32
+        ensures value { result ≡ place (next_in (rows self.now.first self.now.records.now)) (modulus_in (rows self.now.first self.now.records.now)) modulus (length self.now.records.now) 0 }
+    {
+        self.walk()
+            .take_while(|(_, record)| record.modulus < modulus)
+            .last()
+            .map_or(0, |(number, _)| number)
+    }
+
+    // The pair at that position, counted from 0.
+    pub(super) fn pair_at(&self, position: usize) -> Option<Pair>
+        ensures value { result ≡ slice_get (pairs_along self.now.first self.now.records.now) position }
+    {
+        let (_, record) = self.walk().nth(position)?;
+        Some(Pair::from(record))
+    }
+}
+
+// Has the chain go on from the record `at` to the record `next`. Between this and the record's entry it is broken, so
+// the two stand alone.
 pub(super) fn relink(first: &mut u32, records: &mut Vec<Record>, at: u32, next: u32)
     requires { at ≤ vec_len records.old }
     ensures linked { rows first.new records.new.items ≡ slice_set (rows first.old records.old.items) at (relinked (row (rows first.old records.old.items) at) next) }
@@ -46,33 +77,4 @@ pub(super) fn relink(first: &mut u32, records: &mut Vec<Record>, at: u32, next: 
     } else {
         records[at as usize - 1].next = next;
     }
-}
-
-// The pair at that position of the chain, counted from 0.
-pub(super) fn pair_at(first: u32, records: &[Record], position: usize) -> Option<Pair>
-    requires { chained first records.now ≡ true }
-    ensures value { result ≡ slice_get (pairs_along first records.now) position }
-{
-    if position >= records.len() {
-        return None;
-    }
-    let number = number_at(first, records, position);
-    let record = records[number as usize - 1];
-    Some(Pair {
-        modulus: record.modulus,
-        generator: record.generator,
-    })
-}
-
-// The number of the record at that position of the chain.
-fn number_at(first: u32, records: &[Record], position: usize) -> u32
-    requires rising { chained first records.now ≡ true }
-    requires within { position < length records.now }
-    ensures value { result ≡ slice_index (walk (next_in (rows first records.now)) (length records.now) 0) position }
-{
-    let mut at = first;
-    for _step in 0..position {
-        at = next_after(first, records, at);
-    }
-    at
 }

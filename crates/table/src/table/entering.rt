@@ -1,18 +1,19 @@
 // Making a table, emptying it for an index, and entering pairs.
-ghost use Rattle.std.specs.Prelude.{◌≡◌, is_ok, IfOk, if◌then◌else◌};
+ghost use Rattle.std.specs.Prelude.{◌≡◌, true, is_ok, IfOk, if◌then◌else◌};
 ghost use Rattle.std.specs.Result.{result_err};
-ghost use Rattle.arithmetic.specs.Causes.{index_causes, first_cause};
+ghost use Rattle.arithmetic.specs.Causes.{index_causes, index_stands, first_cause};
 ghost use Rattle.table.specs.Entering.{enter_causes, Entered};
 ghost use Rattle.table.specs.Tables.{contents, empty};
 
 use super::RecordTable;
-use super::chain::{next_after, place_of, relink};
+use super::chain::relink;
 use crate::pair::Record;
 use arithmetic::{Refusal, try_index, try_pair};
 use std::alloc::{AllocError, Global};
 
 impl RecordTable {
     // Empty, with index 2. This alone can fail for want of memory.
+    #[tactic(auto, using(crate::proofs::Records::chained_none, crate::proofs::Records::every_none))]
     pub fn new(heap: Global) -> Result<RecordTable, AllocError>
         ensures made { IfOk result (λ t. contents t ≡ empty 2) }
     {
@@ -30,10 +31,18 @@ impl RecordTable {
         ensures after { contents self.new ≡ (if is_ok result then empty index else contents self.old) }
     {
         try_index(index)?;
+        self.clear(index);
+        Ok(())
+    }
+
+    #[tactic(auto, using(crate::proofs::Records::chained_none, crate::proofs::Records::every_none))]
+    pub(super) fn clear(&mut self, index: u32)
+        requires stands { index_stands index ≡ true }
+        ensures after { contents self.new ≡ empty index }
+    {
         self.records.clear();
         self.first = 0;
         self.index = index;
-        Ok(())
     }
 
     // Adds a pair as the record numbered one above the last, and puts it into the chain in rising order of modulus.
@@ -42,8 +51,9 @@ impl RecordTable {
         ensures after { Entered (contents self.old) (contents self.new) modulus generator result }
     {
         self.admit(modulus, generator)?;
-        let at = place_of(self.first, self.records.as_slice(), modulus);
-        let next = next_after(self.first, self.records.as_slice(), at);
+        let chain = self.chain();
+        let at = chain.place_of(modulus);
+        let next = chain.after(at);
         let number = self.records.len() as u32 + 1;
         relink(&mut self.first, &mut self.records, at, number);
         self.records.push_reserved(Record {

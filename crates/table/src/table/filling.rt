@@ -8,7 +8,8 @@ use super::RecordTable;
 
 impl RecordTable {
     // Gives the record of that number its residue, where it waits and the residue is below its modulus. Tells whether it
-    // did: where not, nothing is changed.
+    // did: where not, nothing is changed. No error, since a caller that has looked the record up has none to tell.
+    #[tactic(auto, using(crate::proofs::Records::numbered_some, crate::proofs::Records::every_at, crate::proofs::Fills::filled_chain, crate::proofs::Fills::filled_every, crate::proofs::Fills::filled_fits))]
     pub fn fill(&mut self, number: u32, residue: u32) -> bool
         ensures answer { result ≡ fillable (numbered (contents self.old).records number) residue }
         ensures after { contents self.new ≡ (if result then filled (contents self.old) number residue else contents self.old) }

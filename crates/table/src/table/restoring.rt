@@ -2,13 +2,13 @@
 ghost use Rattle.std.specs.Prelude.{◌≡◌, ◌+◌, ◌≤◌, ◌++◌, length, is_ok, if◌then◌else◌, vec_len, vec_capacity};
 ghost use Rattle.std.specs.Result.{result_err};
 ghost use Rattle.table.specs.Chain.{rows};
-ghost use Rattle.table.specs.Faults.{fault, record_tests, chain_tests, restore_tests};
+ghost use Rattle.table.specs.Faults.{record_tests, chain_tests, restore_tests};
 ghost use Rattle.arithmetic.specs.Causes.{first_cause};
 ghost use Rattle.table.specs.Tables.{contents, empty, holding};
 
 use super::RecordTable;
-use super::chain::next_after;
-use crate::fault::{Damage, Fault, Layer};
+use super::walk::Walk;
+use crate::fault::{Damage, Fault};
 use crate::pair::Record;
 use arithmetic::{try_index, try_pair};
 
@@ -17,13 +17,12 @@ impl RecordTable {
     pub fn reset(&mut self)
         ensures after { contents self.new ≡ empty 2 }
     {
-        self.records.clear();
-        self.first = 0;
-        self.index = 2;
+        self.clear(2);
     }
 
     // Holds these records, of which none has a residue, with this first of the chain and this index. Where they have a
     // fault, the table is empty then, with index 2.
+    #[tactic(auto, using(crate::proofs::Judged::restored))]
     pub fn restore(&mut self, first: u32, index: u32, records: &[Record]) -> Result<(), Fault>
         ensures answer { result_err result ≡ first_cause (restore_tests first index records.now) }
         ensures after { contents self.new ≡ (if is_ok result then holding first index records.now else empty 2) }
@@ -37,6 +36,7 @@ impl RecordTable {
     }
 }
 
+// `extend_from_slice` may want for memory, and this may not: there is room.
 fn copy_all(into: &mut Vec<Record>, records: &[Record])
     requires { vec_len into.old + length records.now ≤ vec_capacity into.old }
     ensures items { into.new.items ≡ into.old.items ++ records.now }
@@ -52,41 +52,26 @@ fn judge(first: u32, index: u32, records: &[Record]) -> Result<(), Fault>
     ensures answer { result_err result ≡ first_cause (restore_tests first index records.now) }
 {
     if records.len() > 1023 {
-        return Err(Fault {
-            record: 0,
-            layer: Layer::File(Damage::Length),
-        });
+        return Err(Fault::at(0, Damage::Length));
     }
-    if let Err(refusal) = try_index(index) {
-        return Err(Fault {
-            record: 0,
-            layer: Layer::Job(refusal),
-        });
-    }
+    try_index(index).map_err(|refusal| Fault::at(0, refusal))?;
     judge_chain(first, index, records)
 }
 
 fn judge_chain(first: u32, index: u32, records: &[Record]) -> Result<(), Fault>
     ensures answer { result_err result ≡ first_cause (chain_tests (rows first records.now) index (length records.now) (length records.now) 0) }
 {
-    let mut at = 0;
+    let mut walk = Walk::new(first, records);
     let mut before = 0;
-    for _step in 0..records.len() {
-        let next = next_after(first, records, at);
-        if next == 0 {
-            return Err(broken(at));
-        }
-        if next as usize > records.len() {
-            return Err(broken(next));
-        }
-        let record = records[next as usize - 1];
-        judge_record(index, before, next, record)?;
-        at = next;
+    while let Some((number, record)) = walk.next() {
+        judge_record(index, before, number, record)?;
         before = record.modulus;
     }
-    let next = next_after(first, records, at);
-    if next != 0 {
-        return Err(broken(next));
+    if walk.next != 0 {
+        return Err(Fault::at(walk.next, Damage::Chain));
+    }
+    if walk.left != 0 {
+        return Err(Fault::at(walk.at, Damage::Chain));
     }
     Ok(())
 }
@@ -95,29 +80,10 @@ fn judge_record(index: u32, before: u32, number: u32, record: Record) -> Result<
     ensures answer { result_err result ≡ first_cause (record_tests index before number «record») }
 {
     if record.modulus <= before {
-        return Err(broken(number));
+        return Err(Fault::at(number, Damage::Chain));
     }
     if record.residue.is_some() {
-        return Err(Fault {
-            record: number,
-            layer: Layer::File(Damage::Residue),
-        });
+        return Err(Fault::at(number, Damage::Residue));
     }
-    if let Err(refusal) = try_pair(index, record.modulus, record.generator) {
-        return Err(Fault {
-            record: number,
-            layer: Layer::Job(refusal),
-        });
-    }
-    Ok(())
-}
-
-// The chain is broken at that record.
-fn broken(number: u32) -> Fault
-    ensures value { result ≡ fault number (Layer.File Damage.Chain) }
-{
-    Fault {
-        record: number,
-        layer: Layer::File(Damage::Chain),
-    }
+    try_pair(index, record.modulus, record.generator).map_err(|refusal| Fault::at(number, refusal))
 }

@@ -6,7 +6,7 @@ ghost use Rattle.table.specs.Fitness.{PairFits};
 ghost use Rattle.table.specs.Tables.{contents};
 
 use super::RecordTable;
-use super::chain::pair_at;
+use super::walk::numbered;
 use crate::pair::{Pair, Record};
 
 impl RecordTable {
@@ -38,17 +38,16 @@ impl RecordTable {
     }
 
     // The record of that number, where there is one.
+    #[tactic(auto, using(crate::proofs::Listed::numbered_fits))]
     pub fn record(&self, number: u32) -> Option<Record>
         ensures value { result ≡ numbered (contents self.now).records number }
         ensures fit { PairFits (contents self.now).index result }
     {
-        if number == 0 || number as usize > self.records.len() {
-            return None;
-        }
-        Some(self.records[number as usize - 1])
+        numbered(self.records.as_slice(), number)
     }
 
     // The number of the record that has the modulus, where it is listed.
+    #[tactic(auto, using(crate::proofs::Listed::only_one))]
     pub fn find(&self, modulus: u32) -> Option<u32>
         ensures value { result ≡ number_of (contents self.now).records modulus }
         ensures only { Only (contents self.now).records modulus result }
@@ -60,7 +59,7 @@ impl RecordTable {
     pub fn pair(&self, position: usize) -> Option<Pair>
         ensures value { result ≡ slice_get (chain_pairs (contents self.now)) position }
     {
-        pair_at(self.first, self.records.as_slice(), position)
+        self.chain().pair_at(position)
     }
 }
 
@@ -68,10 +67,6 @@ fn number_of(records: &[Record], modulus: u32) -> Option<u32>
     requires { length records.now ≤ 1023 }
     ensures value { result ≡ number_of records.now modulus }
 {
-    for (i, record) in records.iter().enumerate() {
-        if record.modulus == modulus {
-            return Some(i as u32 + 1);
-        }
-    }
-    None
+    let place = records.iter().position(|record| record.modulus == modulus)?;
+    Some(place as u32 + 1)
 }

@@ -23,26 +23,27 @@ blind : (k : ℕ) (r : Record) → record_fits k (relinked r 0) ≡ record_fits 
 unfolding record_fits
 blind k r = refl
 
--- the place, as it was found on the records as a slice
-found : (first : ℕ) (rs slice : List Record) (p at : ℕ) → slice ≡ rs
-    → at ≡ place (next_in (rows first slice)) (modulus_in (rows first slice)) p (length slice) 0
+-- the place, and what came after it, as the chain told them
+found : (first first' : ℕ) (rs slice : List Record) (p at : ℕ) → first' ≡ first → slice ≡ rs
+    → at ≡ place (next_in (rows first' slice)) (modulus_in (rows first' slice)) p (length slice) 0
     → at ≡ place (next_in (rows first rs)) (modulus_in (rows first rs)) p (length rs) 0
-found first rs slice p at same h =
-    h ∙ ap (λ (xs : List Record). place (next_in (rows first xs)) (modulus_in (rows first xs)) p (length xs) 0) same
+found first first' rs slice p at e same h =
+    h
+    ∙ ap (λ (n : ℕ). place (next_in (rows n slice)) (modulus_in (rows n slice)) p (length slice) 0) e
+    ∙ ap (λ (xs : List Record). place (next_in (rows first xs)) (modulus_in (rows first xs)) p (length xs) 0) same
 
-pushed : (first : ℕ) (rs slice mid rs' : List Record) (p g at next : ℕ) → slice ≡ rs → next ≡ next_in (rows first slice) at
+pushed : (first first' : ℕ) (rs slice mid rs' : List Record) (p g at next : ℕ) → first' ≡ first → slice ≡ rs → next ≡ next_in (rows first' slice) at
     → rs' ≡ mid ++ waiting_record next p g ∷ [] → rs' ≡ mid ++ waiting_record (next_in (rows first rs) at) p g ∷ []
-pushed first rs slice mid rs' p g at next same is h =
-    h ∙ ap (λ (n : ℕ). mid ++ waiting_record n p g ∷ []) (is ∙ ap (λ (xs : List Record). next_in (rows first xs) at) same)
+pushed first first' rs slice mid rs' p g at next e same is h =
+    h
+    ∙ ap (λ (n : ℕ). mid ++ waiting_record n p g ∷ [])
+    (is ∙ ap (λ (n : ℕ). next_in (rows n slice) at) e ∙ ap (λ (xs : List Record). next_in (rows first xs) at) same)
 
-pub next_after-next-requires : goal.next_after-next-requires
-next_after-next-requires c =
-    let t = c.args.self.now in
-    let rs = vec_items t.records in
-    let p = c.args.modulus in
-    let passed = admitted (contents t) p c.args.generator (sym c.in_ok-admit.ensures.answer) in
-    let here = found t.first rs c.as_slice.result.now p c.place_of-at.result c.as_slice.ensures.value c.place_of-at.ensures.value in
-    omega (arith, place_within t.first rs p c.place_of-at.result t.rising (positive p passed.0) here, ap length c.as_slice-2.ensures.value)
+pub after-next-requires : goal.after-next-requires
+after-next-requires c =
+    let chain = c.chain-chain.result in
+    let passed = admitted (contents c.args.self.now) c.args.modulus c.args.generator (sym c.in_ok-admit.ensures.answer) in
+    place_within chain.first chain.records.now c.args.modulus c.place_of-at.result chain.rising (positive c.args.modulus passed.0) c.place_of-at.ensures.value
 
 pub relink-requires : goal.relink-requires
 relink-requires c =
@@ -50,7 +51,7 @@ relink-requires c =
     let rs = vec_items t.records in
     let p = c.args.modulus in
     let passed = admitted (contents t) p c.args.generator (sym c.in_ok-admit.ensures.answer) in
-    let here = found t.first rs c.as_slice.result.now p c.place_of-at.result c.as_slice.ensures.value c.place_of-at.ensures.value in
+    let here = found t.first c.chain-chain.result.first rs c.chain-chain.result.records.now p c.place_of-at.result c.chain-chain.ensures.first c.chain-chain.ensures.records c.place_of-at.ensures.value in
     omega (arith, place_within t.first rs p c.place_of-at.result t.rising (positive p passed.0) here, t.records.ok.0)
 
 pub invariant_of-self : goal.invariant_of-self
@@ -61,11 +62,11 @@ invariant_of-self c =
     let g = c.args.generator in
     let passed = admitted (contents t) p g (sym c.in_ok-admit.ensures.answer) in
     let at = c.place_of-at.result in
-    let here = found t.first rs c.as_slice.result.now p at c.as_slice.ensures.value c.place_of-at.ensures.value in
+    let here = found t.first c.chain-chain.result.first rs c.chain-chain.result.records.now p at c.chain-chain.ensures.first c.chain-chain.ensures.records c.place_of-at.ensures.value in
     let mid = vec_items c.relink.new.records in
     let rs' = vec_items c.push_reserved.new.self in
     let last : c.len.result + 1 ≡ suc (length rs) = omega (arith, c.len.ensures, t.records.ok.0) in
-    let put = pushed t.first rs c.as_slice-2.result.now mid rs' p g at c.next_after-next.result c.as_slice-2.ensures.value c.next_after-next.ensures.value c.push_reserved.ensures.items in record {
+    let put = pushed t.first c.chain-chain.result.first rs c.chain-chain.result.records.now mid rs' p g at c.after-next.result c.chain-chain.ensures.first c.chain-chain.ensures.records c.after-next.ensures.value c.push_reserved.ensures.items in record {
       room = omega (arith, c.push_reserved.ensures.capacity, c.relink.ensures.capacity, t.room);
       few = omega (arith, c.push_reserved.ensures.len, c.relink.ensures.len, passed.3, t.records.ok.0);
       stands = t.stands;
@@ -81,11 +82,11 @@ returns c =
     let g = c.args.generator in
     let passed = admitted (contents t) p g (sym c.in_ok-admit.ensures.answer) in
     let at = c.place_of-at.result in
-    let here = found t.first rs c.as_slice.result.now p at c.as_slice.ensures.value c.place_of-at.ensures.value in
+    let here = found t.first c.chain-chain.result.first rs c.chain-chain.result.records.now p at c.chain-chain.ensures.first c.chain-chain.ensures.records c.place_of-at.ensures.value in
     let mid = vec_items c.relink.new.records in
     let rs' = vec_items c.push_reserved.new.self in
     let last : c.len.result + 1 ≡ suc (length rs) = omega (arith, c.len.ensures, t.records.ok.0) in
-    let put = pushed t.first rs c.as_slice-2.result.now mid rs' p g at c.next_after-next.result c.as_slice-2.ensures.value c.next_after-next.ensures.value c.push_reserved.ensures.items in
+    let put = pushed t.first c.chain-chain.result.first rs c.chain-chain.result.records.now mid rs' p g at c.after-next.result c.chain-chain.ensures.first c.chain-chain.ensures.records c.after-next.ensures.value c.push_reserved.ensures.items in
     record {
       answer = c.in_ok-admit.ensures.answer;
       after = (
