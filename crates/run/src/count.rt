@@ -1,6 +1,7 @@
 // Counting a doubling run on.
 ghost use Rattle.std.specs.Prelude.{◌≡◌, length};
 ghost use Rattle.run.specs.Calls.{Shared};
+ghost use Rattle.run.specs.Counting.{Zeroes};
 ghost use Rattle.run.specs.CountingOn.{count_causes, Lent, Read};
 
 use crate::carry::LARGEST_SHARE;
@@ -11,22 +12,18 @@ use arithmetic::{Arithmetic, Refusal};
 use digits::DigitSource;
 
 impl Run {
-    // Does to the run what carrying on does, by groups of eight terms where it can. The 256 cells may hold anything
-    // before, and hold 0 after.
-    pub fn count_on<W: Arithmetic, S: DigitSource>(
+    // Counts on in cells that are 256.
+    fn count_in<W: Arithmetic, S: DigitSource>(
         &mut self,
         arithmetic: &W,
         source: &mut S,
-        cells: &mut [u64],
+        cells: &mut [u64; 256],
         terms: u32,
     ) -> Result<u32, Refusal>
-        ensures shared { Shared (count_causes self.old (length cells.old) (W.modulus arithmetic.now) (S.modulus source.old) terms) terms self.old self.new result }
-        ensures cells { Lent cells.old cells.new }
+        ensures shared { Shared (count_causes self.old 256 (W.modulus arithmetic.now) (S.modulus source.old) terms) terms self.old self.new result }
+        ensures zeroes { Zeroes cells.new }
         ensures source { Read S.modulus S.taken self.old source.old source.new result }
     {
-        if cells.len() != 256 {
-            return Err(Refusal::CellCount);
-        }
         let guard = Guard { cells };
         if arithmetic.modulus() != self.modulus {
             return Err(Refusal::OtherArithmetic);
@@ -47,5 +44,24 @@ impl Run {
         let share = terms.min(left);
         self.take_counted(arithmetic, source, guard.cells, from, share);
         Ok(share)
+    }
+
+    // Does to the run what carrying on does, by groups of eight terms where it can. The 256 cells may hold anything
+    // before, and hold 0 after.
+    pub fn count_on<W: Arithmetic, S: DigitSource>(
+        &mut self,
+        arithmetic: &W,
+        source: &mut S,
+        cells: &mut [u64],
+        terms: u32,
+    ) -> Result<u32, Refusal>
+        ensures shared { Shared (count_causes self.old (length cells.old) (W.modulus arithmetic.now) (S.modulus source.old) terms) terms self.old self.new result }
+        ensures cells { Lent cells.old cells.new }
+        ensures source { Read S.modulus S.taken self.old source.old source.new result }
+    {
+        let Some(cells) = cells.as_mut_array() else {
+            return Err(Refusal::CellCount);
+        };
+        self.count_in(arithmetic, source, cells, terms)
     }
 }

@@ -4,6 +4,7 @@ ghost use Rattle.run.specs.Calls.{Stands, left_of};
 
 use crate::progress::{DoublingPlace, Progress};
 use crate::state::Run;
+use crate::walk::RowWalk;
 use arithmetic::Arithmetic;
 use theory::Kind;
 
@@ -20,15 +21,14 @@ impl Run {
         requires room { terms ≤ left_of self.old }
         ensures stands { Stands self.new Kind.Doubling self.old.index self.old.modulus self.old.generator (self.old.taken + terms) }
     {
-        let rows = self.rows(arithmetic, from.row_length);
-        let mut walk = self.begin_walk(arithmetic, from);
+        let mut walk = RowWalk::begin(self, arithmetic, from);
         let mut left = terms;
         while left > 0 {
-            let stretch = left.min(rows.row_length - walk.place);
-            walk = self.walk_singly(arithmetic, &rows, walk, stretch);
-            walk = self.turn(arithmetic, &rows, walk);
+            let stretch = walk.in_row(left);
+            walk.take_singly(stretch);
             left -= stretch;
         }
-        self.end_walk(arithmetic, from.row_length, walk);
+        let (sum, progress) = walk.end();
+        self.move_on(terms, sum, progress);
     }
 }

@@ -11,6 +11,7 @@ mod finish;
 mod finished;
 mod gather;
 mod groups;
+mod moved;
 mod multiplier;
 mod open;
 mod order;

@@ -1,15 +1,11 @@
-use Rattle.std.proofs.Common.{◌≡◌, ℕ, ◌+◌, ◌-◌, ◌*◌, ◌/◌, ◌%◌, ◌<◌, min, sym, ap, ◌∙◌, subst, mod-lt, arith}
-use native.Mathlib.Nat.{add-mod-mod}
+use Rattle.std.proofs.Common.{◌≡◌, ℕ, ◌+◌, ◌/◌, ◌%◌, List, sym, ap, ◌∙◌, subst, mod-lt, arith, replicate}
+use Rattle.std.proofs.lemmas.List.{length-replicate}
 use Rattle.theory.specs.Doubling.{row_length_of, doubling_sum}
 use Rattle.run.specs.Counting.{weighed, groups_of}
-use Rattle.run.specs.Places.{kind_of}
-use Rattle.run.proofs.GroupTerms.{Tally, tally_none, tally_room, tally_more, weighed_zeroes, groups_none}
+use Rattle.run.proofs.GroupTerms.{Tally, tally_none, tally_room, tally_more, weighed_zeroes, zeroes_made, groups_none}
 use Rattle.run.proofs.RowTerms.{rows_have_places, row_of}
-use Rattle.run.proofs.WalkSteps.{length_of, alone_summed}
+use Rattle.run.proofs.WalkSteps.{summed_on, alone_summed}
 use Rattle.run.proofs.state.Run.take_counted.Goals as goal
-
-pub rows-rows-requires : goal.rows-rows-requires
-rows-rows-requires g c = record { same = c.requires.same; length = length_of c.args.self.now c.args.from c.requires.place }
 
 pub loop-left-init : goal.loop-left-init
 loop-left-init g c =
@@ -18,69 +14,40 @@ loop-left-init g c =
     let d = g.S.DigitSource in
     let p = run.modulus in
     let n = row_length_of p in
-    let begun = c.begin_walk-walk.ensures in
-    let walk = c.begin_walk-walk.result in
-    let cells = c.clear.new.cells in
-    let positive : 0 < p = omega (arith, run.fit.0.1) in
-    let here : run.taken % n ≡ walk.place = (row_of n begun.walking.0 walk.place run.taken (sym begun.taken ∙ begun.walking.1.taken_is) begun.inside).1 in
-    let empty : weighed p (residue c.rows-rows.result.ratio) 8 cells ≡ 0 = weighed_zeroes p (residue c.rows-rows.result.ratio) 8 cells c.clear.ensures.zeroes in (
+    let begun = c.begin-walk.ensures in
+    let walk = c.begin-walk.result in
+    let cells : List ℕ = replicate 256 0 in
+    let taken-is = rw (begun.modulus) at walk.walking.taken_is in
+    let here : run.taken % n ≡ walk.place = (row_of n _ walk.place run.taken (sym begun.taken ∙ taken-is) begun.inside).1 in
+    let empty : weighed p (residue walk.rows.ratio) 8 cells ≡ 0 = weighed_zeroes p (residue walk.rows.ratio) 8 cells (zeroes_made 256) in (
+      begun.arithmetic,
+      begun.index,
+      begun.modulus,
+      begun.generator,
       record {
-        walking = begun.walking;
         inside = begun.inside;
         whole = omega (arith, begun.taken);
         summed =
             ap (λ (m : ℕ). (residue walk.next.sum + m) % p) empty
-            ∙ alone_summed p run.generator run.index walk.taken _ positive (begun.sum ∙ ap (doubling_sum p run.generator run.index) (sym begun.taken));
+            ∙ alone_summed p run.generator run.index walk.taken _ (omega (arith, run.fit.0.1)) (begun.sum ∙ ap (doubling_sum p run.generator run.index) (sym begun.taken));
       },
       (
         0,
         subst (λ (j : ℕ). Tally p n walk.place c.args.terms c.args.terms (groups_of 8 n j c.args.terms) cells (d.modulus c.args.source.now) (d.taken c.args.source.now) (d.taken c.args.source.now) 0) (sym here)
-            (tally_none p n walk.place c.args.terms cells (d.modulus c.args.source.now) (d.taken c.args.source.now) (c.clear.auto.cells ∙ c.requires.cells) c.requires.source
-            (g.met.S.DigitSource.bounded c.args.source.now) c.clear.ensures.zeroes),
+            (tally_none p n walk.place c.args.terms cells (d.modulus c.args.source.now) (d.taken c.args.source.now) (length-replicate {A = ℕ} 256 0) c.requires.source
+            (g.met.S.DigitSource.bounded c.args.source.now) (zeroes_made 256)),
       ),
     )
 
-pub overflow_sub-rows : goal.overflow_sub-rows
-overflow_sub-rows g c = omega (arith, c.loop-left.invariant.0.inside, c.rows-rows.ensures.rows.length_is)
-
-pub walk_groups-walk-requires : goal.walk_groups-walk-requires
-walk_groups-walk-requires g c =
+pub take_groups-requires-clause-room : goal.take_groups-requires-clause-room
+take_groups-requires-clause-room g c =
     let run = c.args.self.now in
-    let inv = c.loop-left.invariant.0 in
-    let tally = c.loop-left.invariant.1.1 in
-    let length = c.rows-rows.ensures.rows.length_is in
-    record {
-      same = c.requires.same;
-      source = tally.source_is;
-      cells = tally.long;
-      rows = c.rows-rows.ensures.rows;
-      walking = inv.walking;
-      row = omega (arith, c.min-stretch.ensures, inv.inside, length);
-      few = omega (arith, c.min-stretch.ensures, inv.whole, c.requires.room, run.within);
-      room = tally_room run.modulus (row_length_of run.modulus) c.loop-left.walk.place c.loop-left.left c.args.terms _ c.min-stretch.result c.loop-left.cells _ _ _ c.loop-left.invariant.1.0 tally
-          run.fit.0.2 c.requires.share (omega (arith, c.min-stretch.ensures));
-    }
-
-pub walk_singly-walk-requires : goal.walk_singly-walk-requires
-walk_singly-walk-requires g c =
-    let run = c.args.self.now in
-    let inv = c.loop-left.invariant.0 in
-    let counted = c.walk_groups-walk.ensures in
-    let length = c.rows-rows.ensures.rows.length_is in
-    record {
-      same = c.requires.same;
-      rows = c.rows-rows.ensures.rows;
-      walking = counted.walking;
-      room = omega (arith, c.min-stretch.ensures, inv.inside, length, counted.place);
-      few = omega (arith, c.min-stretch.ensures, inv.whole, c.requires.room, run.within, counted.taken);
-    }
-
-pub turn-walk-requires : goal.turn-walk-requires
-turn-walk-requires g c = record { same = c.requires.same; rows = c.rows-rows.ensures.rows; walking = c.walk_singly-walk.ensures.walking }
-
-pub loop-left-smaller : goal.loop-left-smaller
-loop-left-smaller g c =
-    omega (arith, c.min-stretch.ensures, c.loop-left-test.true, c.loop-left.invariant.0.inside, c.rows-rows.ensures.rows.length_is)
+    let inv = c.loop-left.invariant in
+    let walk = c.loop-left.walk in
+    let stretch = c.in_row-stretch.result in
+    rw inv.2
+    (tally_room run.modulus (row_length_of run.modulus) walk.place c.loop-left.left c.args.terms _ stretch c.loop-left.cells _ _ _ inv.5.0 inv.5.1
+    run.fit.0.2 c.requires.share (omega (arith, c.in_row-stretch.ensures.value)))
 
 pub loop-left-preserved : goal.loop-left-preserved
 loop-left-preserved g c =
@@ -88,89 +55,58 @@ loop-left-preserved g c =
     let residue = g.W.Arithmetic.residue c.args.arithmetic.now in
     let p = run.modulus in
     let n = row_length_of p in
-    let inv = c.loop-left.invariant.0 in
-    let tally = c.loop-left.invariant.1.1 in
-    let counted = c.walk_groups-walk.ensures in
-    let walked = c.walk_singly-walk.ensures in
-    let turned = c.turn-walk.ensures in
-    let stretch = c.min-stretch.result in
-    let length = c.rows-rows.ensures.rows.length_is in
-    let cells = c.walk_groups-walk.new.cells in
-    let full = weighed p (residue c.rows-rows.result.ratio) 8 cells in
-    let parts : 8 * (stretch / 8) + stretch % 8 ≡ stretch = omega arith in
-    let place : c.walk_singly-walk.result.place ≡ c.loop-left.walk.place + stretch = omega (arith, walked.place, counted.place) in
-    let under : c.walk_singly-walk.result.place % n < n = mod-lt c.walk_singly-walk.result.place (rows_have_places p run.fit.0) in
-    let least = c.min-stretch.ensures ∙ ap (λ (m : ℕ). min c.loop-left.left (m - c.loop-left.walk.place)) length in (
+    let inv = c.loop-left.invariant in
+    let at = inv.4 in
+    let walk = c.loop-left.walk in
+    let groups = c.take_groups.ensures in
+    let single = c.take_singly.ensures in
+    let stretch = c.in_row-stretch.result in
+    let least = rw (inv.2) at c.in_row-stretch.ensures.value in
+    let cells = c.take_groups.new.cells in
+    let full = weighed p (residue walk.rows.ratio) 8 cells in
+    let counted = rw (inv.0, inv.1, inv.2, inv.3) at groups.counted in
+    let walked = rw (groups.rows, inv.0, inv.1, inv.2, inv.3) at single.sum in
+    let turned = rw (groups.rows, inv.2) at single.place in
+    let place : c.take_singly.new.self.place ≡ (walk.place + stretch) % n =
+    turned ∙ ap (λ (m : ℕ). m % n) (omega (arith, groups.place)) in
+    let room = rw (inv.2) at groups.room in
+    rw (single.rows, groups.rows) (
+      inv.0,
+      inv.1,
+      inv.2,
+      inv.3,
       record {
-        walking = turned.walking;
-        inside = omega (arith, under, turned.place);
-        whole = omega (arith, turned.taken, walked.taken, counted.taken, inv.whole, c.min-stretch.ensures);
+        inside = omega (arith, place, mod-lt (walk.place + stretch) (rows_have_places p run.fit.0));
+        whole = omega (arith, single.taken, groups.taken, at.whole, least);
         summed =
-            ap (λ (e : g.row.W-Element.Denot). (residue e + full) % p) turned.sum
-            ∙ walked.sum full
-            (ap (λ (e : g.row.W-Element.Denot). (residue e + full) % p) counted.sum
-            ∙ counted.counted (residue c.loop-left.walk.next.sum) inv.summed
-            ∙ ap (doubling_sum p run.generator run.index) (sym counted.taken))
-            ∙ ap (doubling_sum p run.generator run.index) (sym (turned.taken ∙ walked.taken));
+            walked full
+            (ap (λ (e : g.row.W-Element.Denot). (residue e + full) % p) groups.sum
+            ∙ counted (residue walk.next.sum) at.summed
+            ∙ ap (doubling_sum p run.generator run.index) (sym groups.taken))
+            ∙ ap (doubling_sum p run.generator run.index) (sym single.taken);
       },
       (
-        c.loop-left.invariant.1.0 + stretch / 8,
-        tally_more p n c.loop-left.walk.place c.loop-left.left c.args.terms _ stretch c.loop-left.cells cells _ _ _ _ _ c.loop-left.invariant.1.0 c.turn-walk.result.place tally
-            inv.inside least (turned.place ∙ ap (λ (m : ℕ). m % n) place) c.walk_groups-walk.auto.cells counted.source counted.count counted.room,
+        inv.5.0 + stretch / 8,
+        tally_more p n walk.place c.loop-left.left c.args.terms _ stretch c.loop-left.cells cells _ _ _ _ _ inv.5.0 c.take_singly.new.self.place inv.5.1
+            at.inside least place (c.take_groups.array_long ∙ sym inv.5.1.long) groups.source groups.count room,
       ),
     )
 
-pub end_walk-requires : goal.end_walk-requires
-end_walk-requires g c =
+pub move_on-requires-clause-sum : goal.move_on-requires-clause-sum
+move_on-requires-clause-sum g c =
     let run = c.args.self.now in
-    let p = run.modulus in
-    let inv = c.loop-left.invariant.0 in
-    let a = c.args.arithmetic.now in
-    let residue = g.W.Arithmetic.residue a in
-    let m = g.W.Arithmetic.modulus a in
-    let s = residue c.loop-left.walk.next.sum in
-    let full = weighed p (residue c.rows-rows.result.ratio) 8 c.loop-left.cells in
-    record {
-      same = c.requires.same;
-      length = length_of run c.args.from c.requires.place;
-      kind = ap kind_of c.requires.place;
-      walking = (
-        inv.walking.0,
-        record {
-          taken_is = inv.walking.1.taken_is;
-          within = inv.walking.1.within;
-          row_point_is = inv.walking.1.row_point_is;
-          row_weight_is = inv.walking.1.row_weight_is;
-          point_is = inv.walking.1.point_is;
-          weight_is = inv.walking.1.weight_is;
-        },
-      );
-      room = inv.inside;
-      few = omega (arith, inv.whole, c.loop-left-test.false, c.requires.room, run.within);
-      sum =
-          c.add-sum.ensures.value
-          ∙ ap (λ (i : ℕ). (s + i) % m) c.gather-gathered.ensures.value
-          ∙ ap (λ (i : ℕ). (s + weighed i (residue c.rows-rows.result.ratio) 8 c.loop-left.cells % i) % i) c.requires.same
-          ∙ add-mod-mod s full p
-          ∙ inv.summed;
-    }
+    let inv = c.loop-left.invariant in
+    let walk = c.loop-left.walk in
+    let ended = rw (c.add_counted.ensures.rows, inv.0) at c.end-sum.ensures.sum in
+    let added = rw (inv.0, inv.2) at c.add_counted.ensures.sum in
+    let all : walk.taken ≡ run.taken + c.args.terms = omega (arith, inv.4.whole, c.loop-left-test.false) in
+    summed_on run c.args.from walk.taken c.args.terms _ c.requires.place all (ended ∙ added ∙ inv.4.summed)
 
-pub returns : goal.returns
-returns g c =
+pub returns-clause-count : goal.returns-clause-count
+returns-clause-count g c =
     let run = c.args.self.now in
-    let inv = c.loop-left.invariant.0 in
-    let tally = c.loop-left.invariant.1.1 in
     let n = row_length_of run.modulus in
+    let place = c.loop-left.walk.place in
+    let tally = c.loop-left.invariant.5.1 in
     let none : c.loop-left.left ≡ 0 = omega (arith, c.loop-left-test.false) in
-    let stands = c.end_walk.ensures.stands in
-    record {
-      stands = record {
-        kind_is = stands.kind_is;
-        index_is = stands.index_is;
-        modulus_is = stands.modulus_is;
-        generator_is = stands.generator_is;
-        taken_is = stands.taken_is ∙ omega (arith, inv.whole, none);
-      };
-      source = tally.source_is ∙ sym c.requires.source;
-      count = omega (arith, tally.count_is, tally.whole, groups_none 8 n c.loop-left.walk.place, ap (groups_of 8 n c.loop-left.walk.place) none);
-    }
+    omega (arith, tally.count_is, tally.whole, groups_none 8 n place, ap (groups_of 8 n place) none)
