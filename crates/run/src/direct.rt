@@ -39,11 +39,11 @@ impl Run {
             sum = arithmetic.add(sum, arithmetic.mul(factor, weight));
             point = next;
         }
-        self.taken += terms;
-        self.sum = arithmetic.take_out(sum);
-        self.progress = Progress::Direct(DirectPlace {
+        let place = DirectPlace {
             point,
             weight: arithmetic.take_out(weight),
-        });
+        };
+        let sum = arithmetic.take_out(sum);
+        self.move_on(terms, sum, Progress::Direct(place));
     }
 }

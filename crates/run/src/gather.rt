@@ -10,8 +10,8 @@ fn powers_of<W: Arithmetic>(arithmetic: &W, ratio: W::Element) -> [u32; 8]
 {
     let mut powers = [0; 8];
     let mut power = arithmetic.bring_in(1);
-    for u in 0..8usize {
-        powers[u] = arithmetic.take_out(power);
+    for place in powers.iter_mut() {
+        *place = arithmetic.take_out(power);
         power = arithmetic.mul(power, ratio);
     }
     powers

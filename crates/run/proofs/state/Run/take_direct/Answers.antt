@@ -1,7 +1,7 @@
-use Rattle.std.proofs.Common.{◌≡◌, ℕ, ◌+◌, ◌-◌, ◌*◌, ◌/◌, ◌%◌, ◌^◌, ◌<◌, ◌≤◌, sym, refl, ap, ◌∙◌, add-zero, add_assoc, arith}
+use Rattle.std.proofs.Common.{◌≡◌, ℕ, ◌+◌, ◌-◌, ◌*◌, ◌/◌, ◌%◌, ◌^◌, ◌<◌, sym, ap, ◌∙◌, add-zero, add_assoc, arith}
 use Rattle.theory.specs.declared.kind.Kind.TheVariants.{Direct}
 use Rattle.theory.specs.Direct.{half_below, direct_point}
-use Rattle.theory.specs.Kinds.{partial_sum, can_run}
+use Rattle.theory.specs.Kinds.{partial_sum}
 use Rattle.theory.proofs.Modular.{pow-mod, direct_point_under}
 use Rattle.run.specs.declared.progress.DirectPlace.{DirectPlace}
 use Rattle.run.specs.declared.progress.Progress.TheVariants.{Direct as AtDirect}
@@ -67,26 +67,21 @@ loop-i-preserved g c =
     rw (← add_assoc) further
 
 -- where the arithmetic's modulus is the run's
-ended : (p m g k t n s x v s' v' : ℕ) → m ≡ p → n ≡ t → s' ≡ s → v' ≡ v → Standing m g k n s x v
-    → (s' ≡ partial_sum Direct p g k t) × (AtDirect (record { point = x; weight = v' }) ≡ progress_after Direct p g k t)
-ended p m g k t n s x v s' v' same terms sum weight at =
-    rw (sum, weight, ← same, ← terms) (sum_from_standing m g k n s x v at, progress_from_standing m g k n s x v at)
+ended : (run : Run) (m t n s x v s' v' : ℕ) → m ≡ run.modulus → kind_of run.progress ≡ Direct → n ≡ t → s' ≡ s → v' ≡ v
+    → Standing m run.generator run.index n s x v
+    → (s' ≡ partial_sum (kind_of run.progress) run.modulus run.generator run.index t)
+    × (AtDirect (record { point = x; weight = v' }) ≡ progress_after (kind_of run.progress) run.modulus run.generator run.index t)
+ended run m t n s x v s' v' same kind terms sum weight at =
+    rw (kind, sum, weight, ← same, ← terms)
+    (sum_from_standing m run.generator run.index n s x v at, progress_from_standing m run.generator run.index n s x v at)
 
-pub invariant_of-self : goal.invariant_of-self
-unfolding can_run
-invariant_of-self g c =
+pub move_on-requires : goal.move_on-requires
+move_on-requires g c =
     let w = g.W.Arithmetic in
     let a = c.args.arithmetic.now in
     let run = c.args.self.now in
     let all : run.taken + c.loop-i._i ≡ run.taken + c.args.terms = omega (arith, c.loop-i-test.false, c.loop-i.auto._i-end) in
-    let kept = ended run.modulus (w.modulus a) run.generator run.index (run.taken + c.args.terms) (run.taken + c.loop-i._i)
-    (w.residue a c.loop-i.sum) c.loop-i.point (w.residue a c.loop-i.weight) c.take_out-self.result c.take_out.result
-    c.requires.same all c.take_out-self.ensures.value c.take_out.ensures.value c.loop-i.invariant in
-    let within : run.taken + c.args.terms ≤ (run.modulus - 1) / 2 = omega (arith, c.requires.room, run.within) in
-    record {
-      fit = run.fit;
-      usable = refl;
-      within = within;
-      summed = kept.0;
-      placed = kept.1;
-    }
+    let kept = ended run (w.modulus a) (run.taken + c.args.terms) (run.taken + c.loop-i._i)
+    (w.residue a c.loop-i.sum) c.loop-i.point (w.residue a c.loop-i.weight) c.take_out-sum.result c.take_out.result
+    c.requires.same (ap kind_of c.requires.place) all c.take_out-sum.ensures.value c.take_out.ensures.value c.loop-i.invariant in
+    record { room = c.requires.room; sum = kept.0; placed = kept.1 }
