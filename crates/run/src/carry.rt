@@ -1,7 +1,7 @@
 // Carrying a run on, its terms taken one by one.
 ghost use Rattle.run.specs.Calls.{Shared, carry_causes};
 
-use crate::progress::Progress;
+use crate::share::try_terms;
 use crate::state::Run;
 use arithmetic::{Arithmetic, Refusal};
 
@@ -13,17 +13,9 @@ impl Run {
     pub fn carry_on<W: Arithmetic>(&mut self, arithmetic: &W, terms: u32) -> Result<u32, Refusal>
         ensures shared { Shared (carry_causes self.old (W.modulus arithmetic.now) terms) terms self.old self.new result }
     {
-        if arithmetic.modulus() != self.modulus {
-            return Err(Refusal::OtherArithmetic);
-        }
-        if terms < 1 || terms > LARGEST_SHARE {
-            return Err(Refusal::Share);
-        }
-        let left = self.left();
-        if left == 0 {
-            return Err(Refusal::NoTermLeft);
-        }
-        let share = terms.min(left);
+        self.try_arithmetic(arithmetic)?;
+        try_terms(terms)?;
+        let share = self.share(terms)?;
         self.take_singly(arithmetic, share);
         Ok(share)
     }

@@ -4,9 +4,9 @@ ghost use Rattle.run.specs.Calls.{Shared};
 ghost use Rattle.run.specs.Counting.{Zeroes};
 ghost use Rattle.run.specs.CountingOn.{count_causes, Lent, Read};
 
-use crate::carry::LARGEST_SHARE;
 use crate::cells::Guard;
 use crate::progress::Progress;
+use crate::share::try_terms;
 use crate::state::Run;
 use arithmetic::{Arithmetic, Refusal};
 use digits::DigitSource;
@@ -25,23 +25,15 @@ impl Run {
         ensures source { Read S.modulus S.taken self.old source.old source.new result }
     {
         let guard = Guard { cells };
-        if arithmetic.modulus() != self.modulus {
-            return Err(Refusal::OtherArithmetic);
-        }
+        self.try_arithmetic(arithmetic)?;
         if source.modulus() != self.modulus {
             return Err(Refusal::OtherSource);
         }
-        if terms < 1 || terms > LARGEST_SHARE {
-            return Err(Refusal::Share);
-        }
+        try_terms(terms)?;
         let Progress::Doubling(from) = self.progress else {
             return Err(Refusal::DirectRun);
         };
-        let left = self.left();
-        if left == 0 {
-            return Err(Refusal::NoTermLeft);
-        }
-        let share = terms.min(left);
+        let share = self.share(terms)?;
         self.take_counted(arithmetic, source, guard.cells, from, share);
         Ok(share)
     }

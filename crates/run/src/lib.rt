@@ -18,6 +18,7 @@ mod order;
 mod progress;
 mod result;
 mod rows;
+mod share;
 mod singly;
 mod state;
 mod stretch;
