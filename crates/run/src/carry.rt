@@ -1,6 +1,7 @@
 // Carrying a run on, its terms taken one by one.
 ghost use Rattle.run.specs.Calls.{Shared, carry_causes};
 
+use crate::progress::Progress;
 use crate::share::try_terms;
 use crate::state::Run;
 use arithmetic::{Arithmetic, Refusal};
@@ -16,7 +17,10 @@ impl Run {
         self.try_arithmetic(arithmetic)?;
         try_terms(terms)?;
         let share = self.share(terms)?;
-        self.take_singly(arithmetic, share);
+        match self.progress {
+            Progress::Direct(from) => self.take_direct(arithmetic, from, share),
+            Progress::Doubling(from) => self.take_doubling(arithmetic, from, share),
+        }
         Ok(share)
     }
 }

@@ -1,8 +1,7 @@
 // The terms of a doubling run, counted in groups of eight.
 ghost use Rattle.std.specs.Prelude.{◌≡◌, ℕ, ◌+◌, ◌*◌, ◌%◌, ◌^◌, ◌<◌, ◌≤◌, slice_index};
-ghost use Rattle.digits.specs.Counts.{capped};
 ghost use Rattle.run.specs.Calls.{Stands, left_of};
-ghost use Rattle.run.specs.Counting.{Room, weighed, groups_of};
+ghost use Rattle.run.specs.Counting.{Room, Handed, weighed, groups_of};
 ghost use Rattle.theory.specs.Direct.{terms_of};
 ghost use Rattle.theory.specs.Doubling.{row_length_of, doubling_sum};
 
@@ -28,8 +27,7 @@ impl<W: Arithmetic> RowWalk<'_, W> {
         ensures sum { self.new.next.sum ≡ self.old.next.sum }
         ensures counted { (s : ℕ) → (s + weighed self.old.rows.modulus (W.residue self.old.rows.arithmetic.now self.old.rows.ratio) 8 cells.old) % self.old.rows.modulus ≡ doubling_sum self.old.rows.modulus self.old.rows.generator self.old.rows.index self.old.taken → (s + weighed self.old.rows.modulus (W.residue self.old.rows.arithmetic.now self.old.rows.ratio) 8 cells.new) % self.old.rows.modulus ≡ doubling_sum self.old.rows.modulus self.old.rows.generator self.old.rows.index (self.old.taken + 8 * groups) }
         ensures room { Room self.old.rows.modulus groups cells.old cells.new }
-        ensures source { S.modulus source.new ≡ S.modulus source.old }
-        ensures count { S.taken source.new ≡ capped (S.taken source.old + groups) }
+        ensures source { Handed S.modulus S.taken source.old source.new groups }
     {
         self.next = take_groups(&self.rows, source, cells, self.next, groups);
         self.taken += 8 * groups;
@@ -66,8 +64,7 @@ impl Run {
         requires share { terms ≤ 1048576 }
         requires room { terms ≤ left_of self.old }
         ensures stands { Stands self.new Kind.Doubling self.old.index self.old.modulus self.old.generator (self.old.taken + terms) }
-        ensures source { S.modulus source.new ≡ S.modulus source.old }
-        ensures count { S.taken source.new ≡ capped (S.taken source.old + groups_of 8 (row_length_of self.old.modulus) (self.old.taken % row_length_of self.old.modulus) terms) }
+        ensures source { Handed S.modulus S.taken source.old source.new (groups_of 8 (row_length_of self.old.modulus) (self.old.taken % row_length_of self.old.modulus) terms) }
     {
         *cells = [0; 256];
         let mut walk = RowWalk::begin(self, arithmetic, from);

@@ -1,7 +1,6 @@
 // Groups of eight terms, counted into cells.
 ghost use Rattle.std.specs.Prelude.{◌≡◌, ℕ, ◌+◌, ◌*◌, ◌/◌, ◌%◌, ◌^◌, ◌<◌, slice_index, slice_set};
-ghost use Rattle.digits.specs.Counts.{capped};
-ghost use Rattle.run.specs.Counting.{Counted, Room};
+ghost use Rattle.run.specs.Counting.{Counted, Room, Handed};
 
 use crate::rows::Rows;
 use crate::stretch::Stretch;
@@ -15,8 +14,7 @@ fn deposit<S: DigitSource>(source: &mut S, cells: &mut [u64; 256], point: u32, w
     requires room { (i : ℕ) → slice_index cells.old i + weight < 2 ^ 64 }
     ensures point { result ≡ 256 * point % S.modulus source.old }
     ensures cells { cells.new ≡ slice_set cells.old (256 * point / S.modulus source.old) (slice_index cells.old (256 * point / S.modulus source.old) + weight) }
-    ensures same { S.modulus source.new ≡ S.modulus source.old }
-    ensures count { S.taken source.new ≡ capped (S.taken source.old + 1) }
+    ensures source { Handed S.modulus S.taken source.old source.new 1 }
 {
     let (group, next) = source.group(point);
     let cell = group as usize;
@@ -39,8 +37,7 @@ pub(crate) fn take_groups<W: Arithmetic, S: DigitSource>(
     ensures counted { Counted rows.now.modulus (W.residue rows.now.arithmetic.now rows.now.ratio) 8 groups from.point (W.residue rows.now.arithmetic.now from.weight) result.point (W.residue rows.now.arithmetic.now result.weight) cells.old cells.new }
     ensures room { Room rows.now.modulus groups cells.old cells.new }
     ensures sum { result.sum ≡ from.sum }
-    ensures same { S.modulus source.new ≡ S.modulus source.old }
-    ensures count { S.taken source.new ≡ capped (S.taken source.old + groups) }
+    ensures source { Handed S.modulus S.taken source.old source.new groups }
 {
     let arithmetic = rows.arithmetic;
     let mut point = from.point;

@@ -19,7 +19,6 @@ mod progress;
 mod result;
 mod rows;
 mod share;
-mod singly;
 mod state;
 mod stretch;
 mod tell;

@@ -42,7 +42,7 @@ deposit-point-requires-in-loop-i g c =
     c.take_out.result (residue rows.eighth) c.deposit-point.result (residue c.loop-i.odd) c.args.cells.now c.loop-i.cells c.deposit-point.new.cells
     (d.modulus c.loop-i.source) (d.modulus c.deposit-point.new.source) (d.taken c.args.source.now) (d.taken c.loop-i.source) (d.taken c.deposit-point.new.source)
     positive c.loop-i.invariant.0 c.take_out.ensures.value (omega (arith, even-under, rows.same)) rows.eighth_is c.loop-i.invariant.1
-    put.point put.cells put.same put.count in
+    put.point put.cells put.source.0 put.source.1 in
     let under = g.met.W.Arithmetic.under a c.loop-i.odd in
     let asks = deposit_asks p _ (2 * c.loop-i._i + 1) _ _ c.deposit-point.result _ c.args.groups c.take_out-in-loop-i.result c.args.cells.now c.deposit-point.new.cells _ _ _
     positive at (omega (arith, c.loop-i-test.true)) (omega (arith, c.take_out-in-loop-i.ensures.value, under, rows.same)) c.requires.room in
@@ -73,12 +73,12 @@ loop-i-preserved g c =
     c.take_out.result s c.deposit-point.result odd c.args.cells.now c.loop-i.cells c.deposit-point.new.cells
     (d.modulus c.loop-i.source) (d.modulus c.deposit-point.new.source) (d.taken c.args.source.now) (d.taken c.loop-i.source) (d.taken c.deposit-point.new.source)
     positive c.loop-i.invariant.0 c.take_out.ensures.value (omega (arith, even-under, rows.same)) rows.eighth_is c.loop-i.invariant.1
-    put.point put.cells put.same put.count in
+    put.point put.cells put.source.0 put.source.1 in
     let further = gathering_more p r (2 * c.loop-i._i + 1) x v c.deposit-point.result odd
     c.take_out-in-loop-i.result s c.deposit-point-in-loop-i.result even' c.args.cells.now c.deposit-point.new.cells c.deposit-point-in-loop-i.new.cells
     (d.modulus c.deposit-point.new.source) (d.modulus c.deposit-point-in-loop-i.new.source) (d.taken c.args.source.now) (d.taken c.deposit-point.new.source) (d.taken c.deposit-point-in-loop-i.new.source)
     positive at c.take_out-in-loop-i.ensures.value (omega (arith, odd-under, rows.same)) rows.eighth_is ahead
-    put'.point put'.cells put'.same put'.count in
+    put'.point put'.cells put'.source.0 put'.source.1 in
     let twice : 2 * c.loop-i._i + 1 + 1 ≡ 2 * (c.loop-i._i + 1) = omega arith in (
       subst (λ (n : ℕ). Gathering p r n x v c.deposit-point-in-loop-i.result even' c.args.cells.now c.deposit-point-in-loop-i.new.cells (d.modulus c.deposit-point-in-loop-i.new.source) (d.taken c.args.source.now) (d.taken c.deposit-point-in-loop-i.new.source)) twice further,
       every_other p odd s (residue rows.sixteenth) even' (residue c.mul-odd-in-loop-i.result) ahead rows.sixteenth_is (product_by _ p _ _ _ rows.same c.mul-odd-in-loop-i.ensures.value),
@@ -88,7 +88,7 @@ pub returns-then-groups-eq0 : goal.returns-then-groups-eq0
 returns-then-groups-eq0 g c =
     let all : 2 * c.loop-i._i ≡ c.args.groups = omega (arith, c.loop-i-test.false, c.loop-i.auto._i-end, c.if-groups-eq0.true) in
     let at = rw all at c.loop-i.invariant.0 in
-    record { counted = at.counted; room = at.room; sum = refl; same = at.source_is ∙ sym c.requires.same; count = at.count_is }
+    record { counted = at.counted; room = at.room; sum = refl; source = (at.source_is ∙ sym c.requires.same, at.count_is) }
 
 pub deposit-point-requires-2 : goal.deposit-point-requires-2
 deposit-point-requires-2 g c =
@@ -111,7 +111,7 @@ returns g c =
     c.take_out-2.result (residue rows.eighth) c.deposit-point-2.result (residue c.loop-i.odd) c.args.cells.now c.loop-i.cells c.deposit-point-2.new.cells
     (d.modulus c.loop-i.source) (d.modulus c.deposit-point-2.new.source) (d.taken c.args.source.now) (d.taken c.loop-i.source) (d.taken c.deposit-point-2.new.source)
     (omega (arith, rows.fit.0.1)) c.loop-i.invariant.0 c.take_out-2.ensures.value (omega (arith, under, rows.same)) rows.eighth_is c.loop-i.invariant.1
-    put.point put.cells put.same put.count in
+    put.point put.cells put.source.0 put.source.1 in
     let all : 2 * c.loop-i._i + 1 ≡ c.args.groups = omega (arith, c.loop-i-test.false, c.loop-i.auto._i-end, c.if-groups-eq0.false) in
     let at = rw all at further in
-    record { counted = at.counted; room = at.room; sum = refl; same = at.source_is ∙ sym c.requires.same; count = at.count_is }
+    record { counted = at.counted; room = at.room; sum = refl; source = (at.source_is ∙ sym c.requires.same, at.count_is) }

@@ -88,7 +88,7 @@ loop-left-preserved g c =
       (
         inv.5.0 + stretch / 8,
         tally_more p n walk.place c.loop-left.left c.args.terms _ stretch c.loop-left.cells cells _ _ _ _ _ inv.5.0 c.take_singly.new.self.place inv.5.1
-            at.inside least place (c.take_groups.array_long ∙ sym inv.5.1.long) groups.source groups.count room,
+            at.inside least place (c.take_groups.array_long ∙ sym inv.5.1.long) groups.source.0 groups.source.1 room,
       ),
     )
 
@@ -102,11 +102,11 @@ move_on-requires-clause-sum g c =
     let all : walk.taken ≡ run.taken + c.args.terms = omega (arith, inv.4.whole, c.loop-left-test.false) in
     summed_on run c.args.from walk.taken c.args.terms _ c.requires.place all (ended ∙ added ∙ inv.4.summed)
 
-pub returns-clause-count : goal.returns-clause-count
-returns-clause-count g c =
+pub returns-clause-source : goal.returns-clause-source
+returns-clause-source g c =
     let run = c.args.self.now in
     let n = row_length_of run.modulus in
     let place = c.loop-left.walk.place in
     let tally = c.loop-left.invariant.5.1 in
     let none : c.loop-left.left ≡ 0 = omega (arith, c.loop-left-test.false) in
-    omega (arith, tally.count_is, tally.whole, groups_none 8 n place, ap (groups_of 8 n place) none)
+    (tally.source_is ∙ sym c.requires.source, omega (arith, tally.count_is, tally.whole, groups_none 8 n place, ap (groups_of 8 n place) none))
