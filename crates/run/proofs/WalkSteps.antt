@@ -11,9 +11,11 @@ use Rattle.theory.specs.Kinds.{partial_sum}
 use Rattle.theory.specs.Pairs.{FitModulus}
 use Rattle.theory.proofs.Modular.{doubling_point_places, doubling_point_row, doubling_point_under, doubling_weight_row, doubling_weight_under, doubling_sum_under}
 use Rattle.run.specs.declared.progress.DoublingPlace.{DoublingPlace}
+use Rattle.run.specs.declared.progress.Progress.{Progress}
 use Rattle.run.specs.declared.progress.Progress.TheVariants.{Doubling as AtDoubling}
 use Rattle.run.specs.declared.state.Run.{Run}
 use Rattle.run.specs.Places.{kind_of, row_place, progress_after}
+use Rattle.run.specs.Reached.{Reached}
 use Rattle.run.specs.Walks.{InRow, Walking}
 use Rattle.run.proofs.RowTerms.{rows_have_places, row_of, weight_places}
 
@@ -45,14 +47,14 @@ unfolding partial_sum
 sum_of run d place =
     run.summed ∙ ap (λ (k : Kind). partial_sum k run.modulus run.generator run.index run.taken) (ap kind_of place)
 
--- the sum after n terms more, of a run that is doubling
-pub summed_on : (run : Run) (d : DoublingPlace) (t n s : ℕ) → run.progress ≡ AtDoubling d → t ≡ run.taken + n
-    → s ≡ doubling_sum run.modulus run.generator run.index t
-    → s ≡ partial_sum (kind_of run.progress) run.modulus run.generator run.index (run.taken + n)
+-- where n terms more take a run that is doubling
+pub reached_by : (run : Run) (d : DoublingPlace) (t n s : ℕ) (q : Progress) → run.progress ≡ AtDoubling d → t ≡ run.taken + n
+    → s ≡ doubling_sum run.modulus run.generator run.index t → q ≡ progress_after Doubling run.modulus run.generator run.index t
+    → Reached run n (s, q)
 unfolding partial_sum
-summed_on run d t n s place all summed =
-    summed ∙ ap (doubling_sum run.modulus run.generator run.index) all
-    ∙ ap (λ (k : Kind). partial_sum k run.modulus run.generator run.index (run.taken + n)) (ap kind_of (sym place))
+reached_by run d t n s q place all summed placed =
+    let kind : kind_of run.progress ≡ Doubling = ap kind_of place in
+    rw (kind, ← all) (summed, placed)
 
 pub brought : (m p w x : ℕ) → m ≡ p → w < p → x ≡ w % m → x ≡ w
 brought m p w x same under bring = bring ∙ ap (λ (n : ℕ). w % n) same ∙ mod-eq_of_lt under

@@ -4,6 +4,7 @@ ghost use Rattle.run.specs.Calls.{Shared, carry_causes};
 use crate::progress::Progress;
 use crate::share::try_terms;
 use crate::state::Run;
+use crate::work::Share;
 use arithmetic::{Arithmetic, Refusal};
 
 // the most terms that one call takes
@@ -16,11 +17,18 @@ impl Run {
     {
         self.try_arithmetic(arithmetic)?;
         try_terms(terms)?;
-        let share = self.share(terms)?;
-        match self.progress {
-            Progress::Direct(from) => self.take_direct(arithmetic, from, share),
-            Progress::Doubling(from) => self.take_doubling(arithmetic, from, share),
-        }
-        Ok(share)
+        let terms = self.share_of(terms)?;
+        let progress = self.progress;
+        let share = Share {
+            run: self,
+            arithmetic,
+            terms,
+        };
+        let reached = match progress {
+            Progress::Direct(from) => share.take_direct(from),
+            Progress::Doubling(from) => share.take_doubling(from),
+        };
+        self.move_on(terms, reached);
+        Ok(terms)
     }
 }

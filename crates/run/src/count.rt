@@ -8,6 +8,7 @@ use crate::cells::Guard;
 use crate::progress::Progress;
 use crate::share::try_terms;
 use crate::state::Run;
+use crate::work::Share;
 use arithmetic::{Arithmetic, Refusal};
 use digits::DigitSource;
 
@@ -33,9 +34,15 @@ impl Run {
         let Progress::Doubling(from) = self.progress else {
             return Err(Refusal::DirectRun);
         };
-        let share = self.share(terms)?;
-        self.take_counted(arithmetic, source, guard.cells, from, share);
-        Ok(share)
+        let terms = self.share_of(terms)?;
+        let share = Share {
+            run: self,
+            arithmetic,
+            terms,
+        };
+        let reached = share.take_counted(source, guard.cells, from);
+        self.move_on(terms, reached);
+        Ok(terms)
     }
 
     // Does to the run what carrying on does, by groups of eight terms where it can. The 256 cells may hold anything

@@ -1,18 +1,17 @@
 // The terms of a doubling run, counted in groups of eight.
 ghost use Rattle.std.specs.Prelude.{◌≡◌, ℕ, ◌+◌, ◌*◌, ◌%◌, ◌^◌, ◌<◌, ◌≤◌, slice_index};
-ghost use Rattle.run.specs.Calls.{Stands, left_of};
 ghost use Rattle.run.specs.Counting.{Room, Handed, weighed, groups_of};
+ghost use Rattle.run.specs.Reached.{Reached};
 ghost use Rattle.theory.specs.Direct.{terms_of};
 ghost use Rattle.theory.specs.Doubling.{row_length_of, doubling_sum};
 
 use crate::gather::gather;
 use crate::groups::take_groups;
 use crate::progress::{DoublingPlace, Progress};
-use crate::state::Run;
 use crate::walk::RowWalk;
+use crate::work::Share;
 use arithmetic::Arithmetic;
 use digits::DigitSource;
-use theory::Kind;
 
 impl<W: Arithmetic> RowWalk<'_, W> {
     // Counts so many groups of the row, whose weights go into the cells.
@@ -47,28 +46,25 @@ impl<W: Arithmetic> RowWalk<'_, W> {
     }
 }
 
-impl Run {
-    // Takes so many terms of a doubling run: groups of eight where eight are left in the row and the share, and the
-    // others one by one.
-    pub(crate) fn take_counted<W: Arithmetic, S: DigitSource>(
-        &mut self,
-        arithmetic: &W,
+impl<W: Arithmetic> Share<'_, '_, W> {
+    // Takes the terms of a doubling run: groups of eight where eight are left in the row and the share, and the others
+    // one by one.
+    pub(crate) fn take_counted<S: DigitSource>(
+        &self,
         source: &mut S,
         cells: &mut [u64; 256],
         from: DoublingPlace,
-        terms: u32,
-    )
-        requires same { W.modulus arithmetic.now ≡ self.old.modulus }
-        requires source { S.modulus source.old ≡ self.old.modulus }
-        requires place { self.old.progress ≡ Progress.Doubling from }
-        requires share { terms ≤ 1048576 }
-        requires room { terms ≤ left_of self.old }
-        ensures stands { Stands self.new Kind.Doubling self.old.index self.old.modulus self.old.generator (self.old.taken + terms) }
-        ensures source { Handed S.modulus S.taken source.old source.new (groups_of 8 (row_length_of self.old.modulus) (self.old.taken % row_length_of self.old.modulus) terms) }
+    ) -> (u32, Progress)
+        requires source { S.modulus source.old ≡ self.now.run.now.modulus }
+        requires place { self.now.run.now.progress ≡ Progress.Doubling from }
+        requires few { self.now.terms ≤ 1048576 }
+        ensures reached { Reached self.now.run.now self.now.terms result }
+        ensures source { Handed S.modulus S.taken source.old source.new (groups_of 8 (row_length_of self.now.run.now.modulus) (self.now.run.now.taken % row_length_of self.now.run.now.modulus) self.now.terms) }
     {
         *cells = [0; 256];
-        let mut walk = RowWalk::begin(self, arithmetic, from);
-        let mut left = terms;
+        let mut walk = RowWalk::begin(self, from);
+        let mut left = self.terms;
+        // no plainer as one loop with that of single terms: a trait would ask for the cells' room and the source's count
         while left > 0 {
             let stretch = walk.in_row(left);
             walk.take_groups(source, cells, stretch / 8);
@@ -76,7 +72,6 @@ impl Run {
             left -= stretch;
         }
         walk.add_counted(cells);
-        let (sum, progress) = walk.end();
-        self.move_on(terms, sum, progress);
+        walk.end()
     }
 }

@@ -4,7 +4,7 @@ ghost use Rattle.theory.specs.Doubling.{row_length_of};
 ghost use Rattle.theory.specs.Pairs.{Fit};
 
 use crate::multiplier::Multiplier;
-use crate::state::Run;
+use crate::work::Share;
 use arithmetic::{Arithmetic, raise};
 
 // What every row is made with.
@@ -36,14 +36,15 @@ pub(crate) struct Rows<'a, W: Arithmetic> {
 }
 
 impl<'a, W: Arithmetic> Rows<'a, W> {
-    pub(crate) fn new(run: &Run, arithmetic: &'a W, row_length: u32) -> Rows<'a, W>
-        requires same { W.modulus arithmetic.now ≡ run.now.modulus }
-        requires length { row_length ≡ row_length_of run.now.modulus }
-        ensures arithmetic { result.arithmetic.now ≡ arithmetic.now }
-        ensures index { result.index ≡ run.now.index }
-        ensures modulus { result.modulus ≡ run.now.modulus }
-        ensures generator { result.generator ≡ run.now.generator }
+    pub(crate) fn new(share: &Share<'_, 'a, W>, row_length: u32) -> Rows<'a, W>
+        requires length { row_length ≡ row_length_of share.now.run.now.modulus }
+        ensures arithmetic { result.arithmetic.now ≡ share.now.arithmetic.now }
+        ensures index { result.index ≡ share.now.run.now.index }
+        ensures modulus { result.modulus ≡ share.now.run.now.modulus }
+        ensures generator { result.generator ≡ share.now.run.now.generator }
     {
+        let arithmetic = share.arithmetic;
+        let run = share.run;
         let exponent = run.index - 1;
         let ratio = raise(arithmetic, arithmetic.bring_in(2), exponent);
         let eighth = raise(arithmetic, ratio, 8);

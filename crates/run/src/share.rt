@@ -28,7 +28,7 @@ impl Run {
     }
 
     // The smaller of the terms asked for and the terms left.
-    pub(crate) fn share(&self, terms: u32) -> Result<u32, Refusal>
+    pub(crate) fn share_of(&self, terms: u32) -> Result<u32, Refusal>
         ensures cases { MatchResult result (λ n. ((left_of self.now == 0) ≡ false) × (n ≡ min terms (left_of self.now))) (λ e. ((left_of self.now == 0) ≡ true) × (e ≡ Refusal.NoTermLeft)) }
     {
         let left = self.left();

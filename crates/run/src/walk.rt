@@ -7,8 +7,8 @@ ghost use Rattle.run.specs.Walks.{Walking, Grows};
 
 use crate::progress::{DoublingPlace, Progress};
 use crate::rows::Rows;
-use crate::state::Run;
 use crate::stretch::{Stretch, take_stretch};
+use crate::work::Share;
 use arithmetic::Arithmetic;
 use theory::Kind;
 
@@ -29,25 +29,25 @@ pub(crate) struct RowWalk<'a, W: Arithmetic> {
 
 impl<'a, W: Arithmetic> RowWalk<'a, W> {
     // Begins where the run stands.
-    pub(crate) fn begin(run: &Run, arithmetic: &'a W, from: DoublingPlace) -> RowWalk<'a, W>
-        requires same { W.modulus arithmetic.now ≡ run.now.modulus }
-        requires place { run.now.progress ≡ Progress.Doubling from }
-        ensures arithmetic { result.rows.arithmetic.now ≡ arithmetic.now }
-        ensures index { result.rows.index ≡ run.now.index }
-        ensures modulus { result.rows.modulus ≡ run.now.modulus }
-        ensures generator { result.rows.generator ≡ run.now.generator }
-        ensures inside { result.place < row_length_of run.now.modulus }
-        ensures taken { result.taken ≡ run.now.taken }
-        ensures sum { W.residue arithmetic.now result.next.sum ≡ doubling_sum run.now.modulus run.now.generator run.now.index run.now.taken }
+    pub(crate) fn begin(share: &Share<'_, 'a, W>, from: DoublingPlace) -> RowWalk<'a, W>
+        requires place { share.now.run.now.progress ≡ Progress.Doubling from }
+        ensures arithmetic { result.rows.arithmetic.now ≡ share.now.arithmetic.now }
+        ensures index { result.rows.index ≡ share.now.run.now.index }
+        ensures modulus { result.rows.modulus ≡ share.now.run.now.modulus }
+        ensures generator { result.rows.generator ≡ share.now.run.now.generator }
+        ensures inside { result.place < row_length_of share.now.run.now.modulus }
+        ensures taken { result.taken ≡ share.now.run.now.taken }
+        ensures sum { W.residue share.now.arithmetic.now result.next.sum ≡ doubling_sum share.now.run.now.modulus share.now.run.now.generator share.now.run.now.index share.now.run.now.taken }
     {
+        let arithmetic = share.arithmetic;
         RowWalk {
-            rows: Rows::new(run, arithmetic, from.row_length),
-            taken: run.taken,
+            rows: Rows::new(share, from.row_length),
+            taken: share.run.taken,
             place: from.place,
             row_point: from.row_point,
             row_weight: arithmetic.bring_in(from.row_weight),
             next: Stretch {
-                sum: arithmetic.bring_in(run.sum),
+                sum: arithmetic.bring_in(share.run.sum),
                 point: from.point,
                 weight: arithmetic.bring_in(from.weight),
             },

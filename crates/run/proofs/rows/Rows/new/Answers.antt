@@ -9,9 +9,9 @@ brought_power m p a n x y same base power =
 
 pub invariant_of-result : goal.invariant_of-result
 invariant_of-result g c =
-    let run = c.args.run.now in
-    let residue = g.W.Arithmetic.residue c.args.arithmetic.now in
-    let same = c.requires.same in
+    let run = c.args.share.now.run.now in
+    let residue = g.W.Arithmetic.residue c.args.share.now.arithmetic.now in
+    let same = c.args.share.now.same in
     record {
       fit = run.fit;
       same = same;

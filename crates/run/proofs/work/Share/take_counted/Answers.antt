@@ -4,13 +4,13 @@ use Rattle.theory.specs.Doubling.{row_length_of, doubling_sum}
 use Rattle.run.specs.Counting.{weighed, groups_of}
 use Rattle.run.proofs.GroupTerms.{Tally, tally_none, tally_room, tally_more, weighed_zeroes, zeroes_made, groups_none}
 use Rattle.run.proofs.RowTerms.{rows_have_places, row_of}
-use Rattle.run.proofs.WalkSteps.{summed_on, alone_summed}
-use Rattle.run.proofs.state.Run.take_counted.Goals as goal
+use Rattle.run.proofs.WalkSteps.{reached_by, alone_summed}
+use Rattle.run.proofs.work.Share.take_counted.Goals as goal
 
 pub loop-left-init : goal.loop-left-init
 loop-left-init g c =
-    let run = c.args.self.now in
-    let residue = g.W.Arithmetic.residue c.args.arithmetic.now in
+    let run = c.args.self.now.run.now in
+    let residue = g.W.Arithmetic.residue c.args.self.now.arithmetic.now in
     let d = g.S.DigitSource in
     let p = run.modulus in
     let n = row_length_of p in
@@ -33,26 +33,26 @@ loop-left-init g c =
       },
       (
         0,
-        subst (λ (j : ℕ). Tally p n walk.place c.args.terms c.args.terms (groups_of 8 n j c.args.terms) cells (d.modulus c.args.source.now) (d.taken c.args.source.now) (d.taken c.args.source.now) 0) (sym here)
-            (tally_none p n walk.place c.args.terms cells (d.modulus c.args.source.now) (d.taken c.args.source.now) (length-replicate {A = ℕ} 256 0) c.requires.source
+        subst (λ (j : ℕ). Tally p n walk.place c.args.self.now.terms c.args.self.now.terms (groups_of 8 n j c.args.self.now.terms) cells (d.modulus c.args.source.now) (d.taken c.args.source.now) (d.taken c.args.source.now) 0) (sym here)
+            (tally_none p n walk.place c.args.self.now.terms cells (d.modulus c.args.source.now) (d.taken c.args.source.now) (length-replicate {A = ℕ} 256 0) c.requires.source
             (g.met.S.DigitSource.bounded c.args.source.now) (zeroes_made 256)),
       ),
     )
 
 pub take_groups-requires-clause-room : goal.take_groups-requires-clause-room
 take_groups-requires-clause-room g c =
-    let run = c.args.self.now in
+    let run = c.args.self.now.run.now in
     let inv = c.loop-left.invariant in
     let walk = c.loop-left.walk in
     let stretch = c.in_row-stretch.result in
     rw inv.2
-    (tally_room run.modulus (row_length_of run.modulus) walk.place c.loop-left.left c.args.terms _ stretch c.loop-left.cells _ _ _ inv.5.0 inv.5.1
-    run.fit.0.2 c.requires.share (omega (arith, c.in_row-stretch.ensures.value)))
+    (tally_room run.modulus (row_length_of run.modulus) walk.place c.loop-left.left c.args.self.now.terms _ stretch c.loop-left.cells _ _ _ inv.5.0 inv.5.1
+    run.fit.0.2 c.requires.few (omega (arith, c.in_row-stretch.ensures.value)))
 
 pub loop-left-preserved : goal.loop-left-preserved
 loop-left-preserved g c =
-    let run = c.args.self.now in
-    let residue = g.W.Arithmetic.residue c.args.arithmetic.now in
+    let run = c.args.self.now.run.now in
+    let residue = g.W.Arithmetic.residue c.args.self.now.arithmetic.now in
     let p = run.modulus in
     let n = row_length_of p in
     let inv = c.loop-left.invariant in
@@ -87,24 +87,26 @@ loop-left-preserved g c =
       },
       (
         inv.5.0 + stretch / 8,
-        tally_more p n walk.place c.loop-left.left c.args.terms _ stretch c.loop-left.cells cells _ _ _ _ _ inv.5.0 c.take_singly.new.self.place inv.5.1
+        tally_more p n walk.place c.loop-left.left c.args.self.now.terms _ stretch c.loop-left.cells cells _ _ _ _ _ inv.5.0 c.take_singly.new.self.place inv.5.1
             at.inside least place (c.take_groups.array_long ∙ sym inv.5.1.long) groups.source.0 groups.source.1 room,
       ),
     )
 
-pub move_on-requires-clause-sum : goal.move_on-requires-clause-sum
-move_on-requires-clause-sum g c =
-    let run = c.args.self.now in
+pub returns-clause-reached : goal.returns-clause-reached
+returns-clause-reached g c =
+    let run = c.args.self.now.run.now in
     let inv = c.loop-left.invariant in
     let walk = c.loop-left.walk in
-    let ended = rw (c.add_counted.ensures.rows, inv.0) at c.end-sum.ensures.sum in
-    let added = rw (inv.0, inv.2) at c.add_counted.ensures.sum in
-    let all : walk.taken ≡ run.taken + c.args.terms = omega (arith, inv.4.whole, c.loop-left-test.false) in
-    summed_on run c.args.from walk.taken c.args.terms _ c.requires.place all (ended ∙ added ∙ inv.4.summed)
+    let counted = c.add_counted.ensures in
+    let ended = rw (counted.rows, inv.0) at c.end.ensures.sum in
+    let added = rw (inv.0, inv.2) at counted.sum in
+    let all : walk.taken ≡ run.taken + c.args.self.now.terms = omega (arith, inv.4.whole, c.loop-left-test.false) in
+    reached_by run c.args.from walk.taken c.args.self.now.terms _ _ c.requires.place all (ended ∙ added ∙ inv.4.summed)
+    (rw (counted.rows, counted.taken, inv.1, inv.2, inv.3) at c.end.ensures.place)
 
 pub returns-clause-source : goal.returns-clause-source
 returns-clause-source g c =
-    let run = c.args.self.now in
+    let run = c.args.self.now.run.now in
     let n = row_length_of run.modulus in
     let place = c.loop-left.walk.place in
     let tally = c.loop-left.invariant.5.1 in
