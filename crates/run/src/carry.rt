@@ -2,9 +2,8 @@
 ghost use Rattle.run.specs.Calls.{Shared, carry_causes};
 
 use crate::progress::Progress;
-use crate::share::try_terms;
+use crate::share::{Share, try_terms};
 use crate::state::Run;
-use crate::work::Share;
 use arithmetic::{Arithmetic, Refusal};
 
 // the most terms that one call takes

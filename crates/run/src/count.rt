@@ -6,9 +6,8 @@ ghost use Rattle.run.specs.CountingOn.{count_causes, Lent, Read};
 
 use crate::cells::Guard;
 use crate::progress::Progress;
-use crate::share::try_terms;
+use crate::share::{Share, try_terms};
 use crate::state::Run;
-use crate::work::Share;
 use arithmetic::{Arithmetic, Refusal};
 use digits::DigitSource;
 

@@ -8,8 +8,8 @@ ghost use Rattle.theory.specs.Doubling.{row_length_of, doubling_sum};
 use crate::gather::gather;
 use crate::groups::take_groups;
 use crate::progress::{DoublingPlace, Progress};
+use crate::share::Share;
 use crate::walk::RowWalk;
-use crate::work::Share;
 use arithmetic::Arithmetic;
 use digits::DigitSource;
 

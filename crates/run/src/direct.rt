@@ -4,11 +4,11 @@ ghost use Rattle.run.specs.Reached.{Reached};
 
 use crate::multiplier::Multiplier;
 use crate::progress::{DirectPlace, Progress};
-use crate::work::Share;
+use crate::share::Share;
 use arithmetic::{Arithmetic, raise};
 
 impl<W: Arithmetic> Share<'_, '_, W> {
-    // Takes so many terms of a direct run, one by one.
+    // Takes the terms of a direct run, one by one.
     pub(crate) fn take_direct(&self, from: DirectPlace) -> (u32, Progress)
         requires place { self.now.run.now.progress ≡ Progress.Direct from }
         ensures reached { Reached self.now.run.now self.now.terms result }

@@ -3,8 +3,8 @@ ghost use Rattle.std.specs.Prelude.{◌≡◌};
 ghost use Rattle.run.specs.Reached.{Reached};
 
 use crate::progress::{DoublingPlace, Progress};
+use crate::share::Share;
 use crate::walk::RowWalk;
-use crate::work::Share;
 use arithmetic::Arithmetic;
 
 impl<W: Arithmetic> Share<'_, '_, W> {

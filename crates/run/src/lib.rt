@@ -24,7 +24,6 @@ mod stretch;
 mod tell;
 mod told;
 mod walk;
-mod work;
 
 pub use carry::LARGEST_SHARE;
 pub use finished::FinishedResidue;

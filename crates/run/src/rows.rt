@@ -4,7 +4,7 @@ ghost use Rattle.theory.specs.Doubling.{row_length_of};
 ghost use Rattle.theory.specs.Pairs.{Fit};
 
 use crate::multiplier::Multiplier;
-use crate::work::Share;
+use crate::share::Share;
 use arithmetic::{Arithmetic, raise};
 
 // What every row is made with.

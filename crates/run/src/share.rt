@@ -1,10 +1,21 @@
-// What a share is tested for, however it is taken.
-ghost use Rattle.std.specs.Prelude.{◌≡◌, min, true, false, not, ◌==◌, MatchResult};
+// A share of a run, and what it is tested for, however it is taken.
+ghost use Rattle.std.specs.Prelude.{◌≡◌, ◌+◌, ◌≤◌, min, true, false, not, ◌==◌, MatchResult};
 ghost use Rattle.run.specs.Calls.{left_of, unfit_share};
+ghost use Rattle.theory.specs.Direct.{terms_of};
 
 use crate::carry::LARGEST_SHARE;
 use crate::state::Run;
 use arithmetic::{Arithmetic, Refusal};
+
+// So many of the terms that a run has left, with an arithmetic of its modulus.
+#[derive(Drop)]
+pub(crate) struct Share<'r, 'a, W: Arithmetic> {
+    pub(crate) run: &'r Run,
+    pub(crate) arithmetic: &'a W,
+    pub(crate) terms: u32,
+    ghost same: { W.modulus arithmetic.now ≡ run.now.modulus },
+    ghost room: { run.now.taken + terms ≤ terms_of run.now.modulus },
+}
 
 // Refuses a number of terms that no call takes.
 pub(crate) fn try_terms(terms: u32) -> Result<(), Refusal>

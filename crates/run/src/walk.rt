@@ -7,8 +7,8 @@ ghost use Rattle.run.specs.Walks.{Walking, Grows};
 
 use crate::progress::{DoublingPlace, Progress};
 use crate::rows::Rows;
+use crate::share::Share;
 use crate::stretch::{Stretch, take_stretch};
-use crate::work::Share;
 use arithmetic::Arithmetic;
 use theory::Kind;
 

@@ -5,7 +5,7 @@ use Rattle.run.specs.Counting.{weighed, groups_of}
 use Rattle.run.proofs.GroupTerms.{Tally, tally_none, tally_room, tally_more, weighed_zeroes, zeroes_made, groups_none}
 use Rattle.run.proofs.RowTerms.{rows_have_places, row_of}
 use Rattle.run.proofs.WalkSteps.{reached_by, alone_summed}
-use Rattle.run.proofs.work.Share.take_counted.Goals as goal
+use Rattle.run.proofs.share.Share.take_counted.Goals as goal
 
 pub loop-left-init : goal.loop-left-init
 loop-left-init g c =

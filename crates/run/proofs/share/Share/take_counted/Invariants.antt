@@ -3,7 +3,7 @@ use Rattle.theory.specs.Doubling.{row_length_of}
 use Rattle.run.specs.Counting.{weighed, groups_of}
 use Rattle.run.proofs.GroupTerms.{Tally}
 use Rattle.run.proofs.WalkSteps.{Working}
-use Rattle.run.proofs.work.Share.take_counted.Given as goal
+use Rattle.run.proofs.share.Share.take_counted.Given as goal
 
 abbrev pub invariant-loop-left : goal.invariant-loop-left
 invariant-loop-left g l =

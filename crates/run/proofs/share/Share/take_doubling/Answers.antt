@@ -1,7 +1,7 @@
 use Rattle.std.proofs.Common.{◌≡◌, ◌+◌, ◌<◌, sym, ap, ◌∙◌, arith}
 use Rattle.theory.specs.Doubling.{doubling_sum}
 use Rattle.run.proofs.WalkSteps.{reached_by, summed_alone, alone_summed}
-use Rattle.run.proofs.work.Share.take_doubling.Goals as goal
+use Rattle.run.proofs.share.Share.take_doubling.Goals as goal
 
 pub loop-left-init : goal.loop-left-init
 loop-left-init g c =

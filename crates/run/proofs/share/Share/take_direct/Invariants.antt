@@ -1,6 +1,6 @@
 use Rattle.std.proofs.Common.{◌+◌}
 use Rattle.run.proofs.DirectTerms.{Standing}
-use Rattle.run.proofs.work.Share.take_direct.Given as goal
+use Rattle.run.proofs.share.Share.take_direct.Given as goal
 
 -- the run stands where it would after the terms before it and those of this share
 abbrev pub invariant-loop-i : goal.invariant-loop-i

@@ -1,6 +1,6 @@
 use Rattle.std.proofs.Common.{◌≡◌, ◌+◌}
 use Rattle.run.proofs.WalkSteps.{Working}
-use Rattle.run.proofs.work.Share.take_doubling.Given as goal
+use Rattle.run.proofs.share.Share.take_doubling.Given as goal
 
 abbrev pub invariant-loop-left : goal.invariant-loop-left
 invariant-loop-left g l =

@@ -8,7 +8,7 @@ use Rattle.run.specs.declared.progress.Progress.TheVariants.{Direct as AtDirect}
 use Rattle.run.specs.declared.state.Run.{Run}
 use Rattle.run.specs.Places.{kind_of, progress_after}
 use Rattle.run.proofs.DirectTerms.{Standing, standing_from_progress, term_worked, progress_from_standing, sum_from_standing, half_below_residue}
-use Rattle.run.proofs.work.Share.take_direct.Goals as goal
+use Rattle.run.proofs.share.Share.take_direct.Goals as goal
 
 -- a run that is direct, brought into an arithmetic of modulus m
 begun : (run : Run) (m : ℕ) (d : DirectPlace) (s v' : ℕ) → m ≡ run.modulus → run.progress ≡ AtDirect d → s ≡ run.sum % m → v' ≡ d.weight % m
