@@ -12,7 +12,8 @@ use arithmetic::{Arithmetic, Refusal};
 use digits::DigitSource;
 
 impl Run {
-    // Counts on in cells that are 256.
+    // Counts on in cells that are 256. A function of its own: the guard and the test of the number of cells together got
+    // no proof.
     fn count_in<W: Arithmetic, S: DigitSource>(
         &mut self,
         arithmetic: &W,

@@ -11,6 +11,7 @@ use arithmetic::{Arithmetic, raise};
 #[derive(Drop)]
 pub(crate) struct Rows<'a, W: Arithmetic> {
     pub(crate) arithmetic: &'a W,
+    // the run's numbers by value: with the run lent here too the loops got no proof
     pub(crate) index: u32,
     pub(crate) modulus: u32,
     pub(crate) generator: u32,
