@@ -1,10 +1,11 @@
 -- Groups of w terms, and cells that gather their weights, over the width w.
--- Main statements: weighed_deposit, sign_sum_stretch, stretch_add, counted_none, counted_more, weighed_zeroes,
+-- Main statements: weighed_deposit, zeroes_made, sign_sum_stretch, stretch_add, counted_none, counted_more, weighed_zeroes,
 -- gathering_more, groups_step.
 -- Assumes nothing.
-use Rattle.std.proofs.Common.{◌≡◌, ℕ, zero, suc, ◌+◌, ◌-◌, ◌*◌, ◌/◌, ◌%◌, ◌^◌, ◌<◌, ◌≤◌, min, ◌≢◌, List, length, get_or, set, sym, ap, ◌∙◌, subst, ap₂, inl, inr, add-zero, add_assoc, mul-le-mul_right, mod-lt, mod-eq_of_lt, mul-le-mul, one-mul, mul-zero, zero-mul, mul-one, arith, length-set, get_or-set_other, get_or-set_same, pow-add}
+use Rattle.std.proofs.Common.{◌≡◌, ℕ, zero, suc, ◌+◌, ◌-◌, ◌*◌, ◌/◌, ◌%◌, ◌^◌, ◌<◌, ◌≤◌, min, ◌≢◌, List, length, get_or, set, replicate, sym, ap, ◌∙◌, subst, ap₂, inl, inr, add-zero, add_assoc, mul-le-mul_right, mod-lt, mod-eq_of_lt, mul-le-mul, one-mul, mul-zero, zero-mul, mul-one, arith, length-set, get_or-set_other, get_or-set_same, pow-add}
 use native.Mathlib.Nat.{add-mod, pow-zero, zero-div, zero-mod, div-eq_of_lt, div-eq-sub-div, mod-eq-sub-mod, mod_self}
 use native.Mathlib.Decide.{ℕ_discrete, dec_lt}
+use Rattle.std.proofs.lemmas.List.{get_or-replicate, get_or_past, length-replicate}
 use Rattle.digits.specs.Counts.{capped}
 use Rattle.digits.specs.Digits.{digit}
 use Rattle.digits.proofs.Digits.{digit_law, group_under}
@@ -39,6 +40,14 @@ weighed_deposit p r w c v cells inside within =
     sum_change (2 ^ w) c (v * sign_sum p r w c) (λ i. get_or cells i 0 * sign_sum p r w i) (λ i. get_or (set cells c (get_or cells c 0 + v)) i 0 * sign_sum p r w i) inside
     (ap (λ (a : ℕ). a * sign_sum p r w c) (get_or-set_same cells c (get_or cells c 0 + v) 0 within) ∙ omega arith)
     (λ i other. ap (λ (a : ℕ). a * sign_sum p r w i) (get_or-set_other cells c i (get_or cells c 0 + v) 0 other))
+
+-- cells that are all made 0
+pub zeroes_made : (n : ℕ) → Zeroes (replicate n 0)
+zeroes_made n i =
+    elim (dec_lt i n) [
+      | yes below ↦ get_or-replicate n i 0 0 below
+      | no past ↦ get_or_past (replicate n 0) i 0 (omega (arith, past, length-replicate {A = ℕ} n 0))
+    ]
 
 -- empty cells stand for 0
 pub weighed_zeroes : (p r w : ℕ) (cells : List ℕ) → Zeroes cells → weighed p r w cells ≡ 0

@@ -1,5 +1,5 @@
 -- Where a run stands before its first term, and why opening refuses.
--- Main statements: sum_start, direct_started, started_kept, pair_cause_first.
+-- Main statements: sum_start, direct_started, kind_after, started_kept, pair_cause_first.
 -- Assumes nothing.
 use Rattle.std.proofs.Common.{◌≡◌, ℕ, ◌-◌, ◌*◌, ◌/◌, ◌%◌, ◌^◌, ◌≤◌, Bool, true, false, not, ◌&&◌, eqb, ◌≢◌, [], ◌∷◌, Some, sym, refl, ap, ◌∙◌, ap₂, mod-eq_of_lt, arith, eq-eqb, ne_eqb}
 use native.Mathlib.Nat.{zero-div, zero-mod}
@@ -83,6 +83,12 @@ pub sum_start : (kind : Kind) (p g k : ℕ) → 0 ≡ partial_sum kind p g k 0
 unfolding partial_sum
 sum_start Direct p g k = sym (direct_sum_zero p g k)
 sum_start Doubling p g k = sym (doubling_sum_zero p g k)
+
+-- the place after t terms is one of the run's kind
+pub kind_after : (kind : Kind) (p g k t : ℕ) → kind_of (progress_after kind p g k t) ≡ kind
+unfolding progress_after
+kind_after Direct p g k t = refl
+kind_after Doubling p g k t = refl
 
 -- what a run keeps true, where it begins
 pub started_kept : (kind : Kind) (k p g : ℕ) (q : Progress) → Started kind k p (Some q) → (can_run (kind_of q) p k ≡ true) × (q ≡ progress_after (kind_of q) p g k 0)

@@ -1,6 +1,7 @@
 -- Counting on: groups of w binary digits, and the cells that gather the weights of groups with the same digits.
 -- Assumes nothing.
 use Rattle.std.specs.Prelude.{◌≡◌, ℕ, ◌+◌, ◌-◌, ◌*◌, ◌/◌, ◌%◌, ◌^◌, ◌≤◌, min, List, slice_index}
+use Rattle.digits.specs.Counts.{capped}
 use Rattle.digits.specs.Digits.{digit}
 use Rattle.theory.specs.Residues.{signed}
 use Rattle.theory.specs.Sums.{sum}
@@ -35,3 +36,7 @@ pub record Counted (p r w n x v x' v' : ℕ) (before after : List ℕ) : Type 0 
 -- no cell has grown by more than n weights below p
 abbrev pub Room : ℕ → ℕ → List ℕ → List ℕ → Type 0
 Room p n before after = (i : ℕ) → slice_index after i ≤ slice_index before i + n * p
+
+-- the source's modulus is as it was, and its count has risen by n groups, up to its cap
+abbrev pub Handed : {S : Type 0} → (S → ℕ) → (S → ℕ) → S → S → ℕ → Type 0
+Handed modulus taken before after n = (modulus after ≡ modulus before) × (taken after ≡ capped (taken before + n))

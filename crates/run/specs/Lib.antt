@@ -5,3 +5,4 @@ pub mod Counting
 pub mod Calls
 pub mod CountingOn
 pub mod Finishing
+pub mod Reached

@@ -2,6 +2,7 @@
 ghost use Rattle.run.specs.Calls.{Shared, carry_causes};
 
 use crate::progress::Progress;
+use crate::share::{Share, try_terms};
 use crate::state::Run;
 use arithmetic::{Arithmetic, Refusal};
 
@@ -13,18 +14,20 @@ impl Run {
     pub fn carry_on<W: Arithmetic>(&mut self, arithmetic: &W, terms: u32) -> Result<u32, Refusal>
         ensures shared { Shared (carry_causes self.old (W.modulus arithmetic.now) terms) terms self.old self.new result }
     {
-        if arithmetic.modulus() != self.modulus {
-            return Err(Refusal::OtherArithmetic);
-        }
-        if terms < 1 || terms > LARGEST_SHARE {
-            return Err(Refusal::Share);
-        }
-        let left = self.left();
-        if left == 0 {
-            return Err(Refusal::NoTermLeft);
-        }
-        let share = terms.min(left);
-        self.take_singly(arithmetic, share);
-        Ok(share)
+        self.try_arithmetic(arithmetic)?;
+        try_terms(terms)?;
+        let terms = self.share_of(terms)?;
+        let progress = self.progress;
+        let share = Share {
+            run: self,
+            arithmetic,
+            terms,
+        };
+        let reached = match progress {
+            Progress::Direct(from) => share.take_direct(from),
+            Progress::Doubling(from) => share.take_doubling(from),
+        };
+        self.move_on(terms, reached);
+        Ok(terms)
     }
 }

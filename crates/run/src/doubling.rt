@@ -1,34 +1,26 @@
 // The terms of a doubling run, taken one by one.
-ghost use Rattle.std.specs.Prelude.{◌≡◌, ◌+◌, ◌≤◌};
-ghost use Rattle.run.specs.Calls.{Stands, left_of};
+ghost use Rattle.std.specs.Prelude.{◌≡◌};
+ghost use Rattle.run.specs.Reached.{Reached};
 
 use crate::progress::{DoublingPlace, Progress};
-use crate::state::Run;
+use crate::share::Share;
+use crate::walk::RowWalk;
 use arithmetic::Arithmetic;
-use theory::Kind;
 
-impl Run {
-    // Takes so many terms of a doubling run, row by row.
-    pub(crate) fn take_doubling<W: Arithmetic>(
-        &mut self,
-        arithmetic: &W,
-        from: DoublingPlace,
-        terms: u32,
-    )
-        requires same { W.modulus arithmetic.now ≡ self.old.modulus }
-        requires place { self.old.progress ≡ Progress.Doubling from }
-        requires room { terms ≤ left_of self.old }
-        ensures stands { Stands self.new Kind.Doubling self.old.index self.old.modulus self.old.generator (self.old.taken + terms) }
+impl<W: Arithmetic> Share<'_, '_, W> {
+    // Takes the terms of a doubling run, row by row.
+    pub(crate) fn take_doubling(&self, from: DoublingPlace) -> (u32, Progress)
+        requires place { self.now.run.now.progress ≡ Progress.Doubling from }
+        ensures reached { Reached self.now.run.now self.now.terms result }
     {
-        let rows = self.rows(arithmetic, from.row_length);
-        let mut walk = self.begin_walk(arithmetic, from);
-        let mut left = terms;
+        let mut walk = RowWalk::begin(self, from);
+        let mut left = self.terms;
+        // no plainer as an iterator: how long a stretch is hangs on the place that the one before it left
         while left > 0 {
-            let stretch = left.min(rows.row_length - walk.place);
-            walk = self.walk_singly(arithmetic, &rows, walk, stretch);
-            walk = self.turn(arithmetic, &rows, walk);
+            let stretch = walk.in_row(left);
+            walk.take_singly(stretch);
             left -= stretch;
         }
-        self.end_walk(arithmetic, from.row_length, walk);
+        walk.end()
     }
 }

@@ -28,8 +28,8 @@ impl Run {
     pub fn finish<W: Arithmetic>(self, arithmetic: &W) -> Result<FinishedResidue, (Refusal, Run)>
         ensures finished { Finished self (W.modulus arithmetic.now) result }
     {
-        if arithmetic.modulus() != self.modulus {
-            return Err((Refusal::OtherArithmetic, self));
+        if let Err(refusal) = self.try_arithmetic(arithmetic) {
+            return Err((refusal, self));
         }
         if self.left() > 0 {
             return Err((Refusal::TermsLeft, self));

@@ -7,7 +7,7 @@ use theory::Kind;
 
 // The result of a whole run, with the index and the pair that it is of. None can be made but by finishing a run, and
 // filling it in uses it up.
-#[derive(Drop)]
+#[derive(Debug, Drop)]
 pub struct FinishedResidue {
     pub(crate) kind: Kind,
     pub(crate) index: u32,

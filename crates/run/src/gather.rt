@@ -1,5 +1,5 @@
 // What the cells of a counted share come to.
-ghost use Rattle.std.specs.Prelude.{◌≡◌, ℕ, ◌%◌, ◌^◌, ◌<◌, length, slice_index};
+ghost use Rattle.std.specs.Prelude.{◌≡◌, ℕ, ◌%◌, ◌^◌, ◌<◌, slice_index};
 ghost use Rattle.run.specs.Counting.{sign_sum, weighed};
 
 use arithmetic::Arithmetic;
@@ -10,8 +10,8 @@ fn powers_of<W: Arithmetic>(arithmetic: &W, ratio: W::Element) -> [u32; 8]
 {
     let mut powers = [0; 8];
     let mut power = arithmetic.bring_in(1);
-    for u in 0..8usize {
-        powers[u] = arithmetic.take_out(power);
+    for place in powers.iter_mut() {
+        *place = arithmetic.take_out(power);
         power = arithmetic.mul(power, ratio);
     }
     powers
@@ -34,8 +34,11 @@ fn sum_signs<W: Arithmetic>(arithmetic: &W, powers: &[u32; 8], number: usize) ->
 }
 
 // Every cell times the sign sum of its number.
-pub(crate) fn gather<W: Arithmetic>(arithmetic: &W, ratio: W::Element, cells: &[u64]) -> W::Element
-    requires cells { length cells.now ≡ 256 }
+pub(crate) fn gather<W: Arithmetic>(
+    arithmetic: &W,
+    ratio: W::Element,
+    cells: &[u64; 256],
+) -> W::Element
     ensures value { W.residue arithmetic.now result ≡ weighed (W.modulus arithmetic.now) (W.residue arithmetic.now ratio) 8 cells.now % W.modulus arithmetic.now }
 {
     let p = arithmetic.modulus() as u64;

@@ -1,7 +1,6 @@
 // Groups of eight terms, counted into cells.
-ghost use Rattle.std.specs.Prelude.{◌≡◌, ℕ, ◌+◌, ◌*◌, ◌/◌, ◌%◌, ◌^◌, ◌<◌, length, slice_index, slice_set};
-ghost use Rattle.digits.specs.Counts.{capped};
-ghost use Rattle.run.specs.Counting.{Counted, Room};
+ghost use Rattle.std.specs.Prelude.{◌≡◌, ℕ, ◌+◌, ◌*◌, ◌/◌, ◌%◌, ◌^◌, ◌<◌, slice_index, slice_set};
+ghost use Rattle.run.specs.Counting.{Counted, Room, Handed};
 
 use crate::rows::Rows;
 use crate::stretch::Stretch;
@@ -10,14 +9,12 @@ use digits::DigitSource;
 
 // Takes the group of a point from the source, adds the weight to the cell that the group's digits number, and gives the
 // point of the next group.
-fn deposit<S: DigitSource>(source: &mut S, cells: &mut [u64], point: u32, weight: u32) -> u32
-    requires cells { length cells.old ≡ 256 }
+fn deposit<S: DigitSource>(source: &mut S, cells: &mut [u64; 256], point: u32, weight: u32) -> u32
     requires below { point < S.modulus source.old }
     requires room { (i : ℕ) → slice_index cells.old i + weight < 2 ^ 64 }
     ensures point { result ≡ 256 * point % S.modulus source.old }
     ensures cells { cells.new ≡ slice_set cells.old (256 * point / S.modulus source.old) (slice_index cells.old (256 * point / S.modulus source.old) + weight) }
-    ensures same { S.modulus source.new ≡ S.modulus source.old }
-    ensures count { S.taken source.new ≡ capped (S.taken source.old + 1) }
+    ensures source { Handed S.modulus S.taken source.old source.new 1 }
 {
     let (group, next) = source.group(point);
     let cell = group as usize;
@@ -28,25 +25,21 @@ fn deposit<S: DigitSource>(source: &mut S, cells: &mut [u64], point: u32, weight
 // Counts so many groups on end in a row. Two chains of weights, for every other group each, so that one product does not
 // wait for the one before it.
 pub(crate) fn take_groups<W: Arithmetic, S: DigitSource>(
-    arithmetic: &W,
+    rows: &Rows<W>,
     source: &mut S,
-    cells: &mut [u64],
-    rows: &Rows<W::Element>,
+    cells: &mut [u64; 256],
     from: Stretch<W::Element>,
     groups: u32,
 ) -> Stretch<W::Element>
-    requires same { S.modulus source.old ≡ W.modulus arithmetic.now }
-    requires cells { length cells.old ≡ 256 }
-    requires below { from.point < W.modulus arithmetic.now }
-    requires room { (i : ℕ) → slice_index cells.old i + groups * W.modulus arithmetic.now < 2 ^ 64 }
-    requires eighth { W.residue arithmetic.now rows.now.eighth ≡ W.residue arithmetic.now rows.now.ratio ^ 8 % W.modulus arithmetic.now }
-    requires sixteenth { W.residue arithmetic.now rows.now.sixteenth ≡ W.residue arithmetic.now rows.now.eighth * W.residue arithmetic.now rows.now.eighth % W.modulus arithmetic.now }
-    ensures counted { Counted (W.modulus arithmetic.now) (W.residue arithmetic.now rows.now.ratio) 8 groups from.point (W.residue arithmetic.now from.weight) result.point (W.residue arithmetic.now result.weight) cells.old cells.new }
-    ensures room { Room (W.modulus arithmetic.now) groups cells.old cells.new }
+    requires same { S.modulus source.old ≡ rows.now.modulus }
+    requires below { from.point < rows.now.modulus }
+    requires room { (i : ℕ) → slice_index cells.old i + groups * rows.now.modulus < 2 ^ 64 }
+    ensures counted { Counted rows.now.modulus (W.residue rows.now.arithmetic.now rows.now.ratio) 8 groups from.point (W.residue rows.now.arithmetic.now from.weight) result.point (W.residue rows.now.arithmetic.now result.weight) cells.old cells.new }
+    ensures room { Room rows.now.modulus groups cells.old cells.new }
     ensures sum { result.sum ≡ from.sum }
-    ensures same { S.modulus source.new ≡ S.modulus source.old }
-    ensures count { S.taken source.new ≡ capped (S.taken source.old + groups) }
+    ensures source { Handed S.modulus S.taken source.old source.new groups }
 {
+    let arithmetic = rows.arithmetic;
     let mut point = from.point;
     let mut even = from.weight;
     let mut odd = arithmetic.mul(even, rows.eighth);
@@ -56,16 +49,17 @@ pub(crate) fn take_groups<W: Arithmetic, S: DigitSource>(
         point = deposit(source, cells, point, arithmetic.take_out(odd));
         odd = arithmetic.mul(odd, rows.sixteenth);
     }
+    let sum = from.sum;
     if groups % 2 == 0 {
         return Stretch {
-            sum: from.sum,
+            sum,
             point,
             weight: even,
         };
     }
     let point = deposit(source, cells, point, arithmetic.take_out(even));
     Stretch {
-        sum: from.sum,
+        sum,
         point,
         weight: odd,
     }

@@ -20,8 +20,7 @@ fn order_of_two<W: Arithmetic>(arithmetic: &W) -> u32
 {
     let whole = arithmetic.modulus() - 1;
     let mut least = whole;
-    let mut d: u32 = 1;
-    while d <= whole / d {
+    for d in 1..=whole.isqrt() {
         if whole % d == 0 {
             if leaves_one(arithmetic, d) {
                 return d;
@@ -30,7 +29,6 @@ fn order_of_two<W: Arithmetic>(arithmetic: &W) -> u32
                 least = whole / d;
             }
         }
-        d += 1;
     }
     least
 }

@@ -1,6 +1,6 @@
 // Where a run stands, as plain numbers: what its next term is made from.
 
-#[derive(Clone, Copy)]
+#[derive(Clone, Copy, Debug)]
 pub struct DirectPlace {
     // the point of the next term
     pub point: u32,
@@ -8,7 +8,7 @@ pub struct DirectPlace {
     pub weight: u32,
 }
 
-#[derive(Clone, Copy)]
+#[derive(Clone, Copy, Debug)]
 pub struct DoublingPlace {
     pub row_length: u32,
     // of the next term in its row
@@ -21,7 +21,7 @@ pub struct DoublingPlace {
     pub weight: u32,
 }
 
-#[derive(Clone, Copy)]
+#[derive(Clone, Copy, Debug)]
 pub enum Progress {
     Direct(DirectPlace),
     Doubling(DoublingPlace),

@@ -4,6 +4,14 @@ ghost use Rattle.theory.specs.Residues.{minus, inverse};
 
 use arithmetic::{Arithmetic, invert, raise};
 
+// A factor times the sum, over the divisor.
+fn quotient<W: Arithmetic>(arithmetic: &W, factor: W::Element, sum: u32, divisor: W::Element) -> u32
+    ensures value { result ≡ W.residue arithmetic.now factor * sum * inverse (W.modulus arithmetic.now) (W.residue arithmetic.now divisor) % W.modulus arithmetic.now }
+{
+    let product = arithmetic.mul(factor, arithmetic.bring_in(sum));
+    arithmetic.take_out(arithmetic.mul(product, invert(arithmetic, divisor)))
+}
+
 // 2k·S/(1 − g^k)
 pub(crate) fn direct_result<W: Arithmetic>(
     arithmetic: &W,
@@ -16,8 +24,7 @@ pub(crate) fn direct_result<W: Arithmetic>(
     let power = raise(arithmetic, arithmetic.bring_in(generator), index);
     let divisor = arithmetic.sub(arithmetic.bring_in(1), power);
     let twice = arithmetic.mul(arithmetic.bring_in(2), arithmetic.bring_in(index));
-    let product = arithmetic.mul(twice, arithmetic.bring_in(sum));
-    arithmetic.take_out(arithmetic.mul(product, invert(arithmetic, divisor)))
+    quotient(arithmetic, twice, sum, divisor)
 }
 
 // k·S/(2(2^(−k) − 1))
@@ -28,6 +35,5 @@ pub(crate) fn doubling_result<W: Arithmetic>(arithmetic: &W, index: u32, sum: u3
     let power = raise(arithmetic, two, index);
     let below = arithmetic.sub(invert(arithmetic, power), arithmetic.bring_in(1));
     let divisor = arithmetic.mul(two, below);
-    let product = arithmetic.mul(arithmetic.bring_in(index), arithmetic.bring_in(sum));
-    arithmetic.take_out(arithmetic.mul(product, invert(arithmetic, divisor)))
+    quotient(arithmetic, arithmetic.bring_in(index), sum, divisor)
 }

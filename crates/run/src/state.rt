@@ -7,7 +7,7 @@ ghost use Rattle.theory.specs.Pairs.{Fit};
 
 use crate::progress::Progress;
 
-#[derive(Drop)]
+#[derive(Debug, Drop)]
 pub struct Run {
     pub(crate) index: u32,
     pub(crate) modulus: u32,

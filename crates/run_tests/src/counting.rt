@@ -1,14 +1,14 @@
 // Counted shares reach what single terms reach, leave zeroes in the cells, and read so many groups and no more.
-use crate::told::{finished, standing};
-use arithmetic::{Arithmetic, Balanced, Montgomery, Plain, Refusal};
+use crate::told::{finished, refused, standing};
+use arithmetic::{Arithmetic, Balanced, Montgomery, Plain};
 use digits::{DigitSource, Divider, Doubler, Reciprocal};
 use run::Run;
 use std::process::Abort;
 use std::test::Fail;
 use theory::Kind;
 
-fn all_zero(cells: &[u64]) -> bool {
-    cells.iter().copied().max() == Some(0)
+fn all_hold(cells: &[u64], value: u64) -> bool {
+    cells.iter().all(|cell| *cell == value)
 }
 
 // One counted share, in cells that held something else.
@@ -21,24 +21,34 @@ fn count<W: Arithmetic, S: DigitSource>(
 ) -> Result<u32, Fail> {
     let mut cells = [99u64; 256];
     let share = run.count_on(arithmetic, source, &mut cells, terms)?;
-    assert!(rt; all_zero(&cells));
+    assert!(rt; all_hold(&cells, 0));
     Ok(share)
 }
 
-// One share of the mixed run: counted with another arithmetic and source each turn, or carried on.
-fn mixed(rt: &impl Abort, run: &mut Run, turn: u32, terms: u32) -> Result<u32, Fail> {
-    let p = run.modulus();
-    match turn % 4 {
-        0 => count(
-            rt,
-            run,
-            &Montgomery::new(p)?,
-            &mut Reciprocal::new(p)?,
-            terms,
-        ),
-        1 => Ok(run.carry_on(&Balanced::new(p)?, terms)?),
-        2 => count(rt, run, &Balanced::new(p)?, &mut Doubler::new(p)?, terms),
-        _ => count(rt, run, &Plain::new(p)?, &mut Divider::new(p)?, terms),
+// How one share of the mixed run is taken: counted with this source, or one by one.
+#[derive(Clone, Copy)]
+enum Way {
+    Reciprocal,
+    Singly,
+    Doubler,
+    Divider,
+}
+
+const WAYS: [Way; 4] = [Way::Reciprocal, Way::Singly, Way::Doubler, Way::Divider];
+
+impl Way {
+    // One share, with another arithmetic each way.
+    fn take(self, rt: &impl Abort, run: &mut Run, terms: u32) -> Result<u32, Fail> {
+        let p = run.modulus();
+        match self {
+            Way::Reciprocal => {
+                let mut source = Reciprocal::new(p)?;
+                count(rt, run, &Montgomery::new(p)?, &mut source, terms)
+            }
+            Way::Singly => Ok(run.carry_on(&Balanced::new(p)?, terms)?),
+            Way::Doubler => count(rt, run, &Balanced::new(p)?, &mut Doubler::new(p)?, terms),
+            Way::Divider => count(rt, run, &Plain::new(p)?, &mut Divider::new(p)?, terms),
+        }
     }
 }
 
@@ -53,11 +63,11 @@ fn beside_single_terms(
     let plain = Plain::new(modulus)?;
     let mut run = Run::open(Kind::Doubling, index, modulus, generator)?;
     let mut single = Run::open(Kind::Doubling, index, modulus, generator)?;
-    for turn in 0..600u32 {
+    for way in WAYS.into_iter().cycle().skip(size as usize).take(600) {
         if run.left() == 0 {
             break;
         }
-        let share = mixed(rt, &mut run, turn.wrapping_add(size), size)?;
+        let share = way.take(rt, &mut run, size)?;
         for _i in 0..share {
             assert_eq!(rt; single.carry_on(&plain, 1)?, 1);
         }
@@ -117,54 +127,57 @@ fn groups_stay_in_row_and_share(rt: HostRuntime) -> Result<(), Fail> {
     Ok(())
 }
 
-// What is refused, in the order of its causes, with what it leaves: the run, the source, and zeroes in 256 cells.
-fn refused(
+// What is refused, with what it leaves: the run and the source.
+fn refused_counting(
     rt: &impl Abort,
     run: &mut Run,
     modulus: u32,
     source_modulus: u32,
     cells: &mut [u64],
     terms: u32,
-) -> Result<u8, Fail> {
+) -> Result<Option<u8>, Fail> {
     let mut source = Divider::new(source_modulus)?;
     let before = standing(run);
     let answer = run.count_on(&Plain::new(modulus)?, &mut source, cells, terms);
     assert_eq!(rt; standing(run), before);
     assert_eq!(rt; source.count(), 0);
-    match answer {
-        Ok(_) => Ok(0),
-        Err(refusal) => Ok(refusal.number()),
-    }
+    Ok(refused(answer))
 }
 
+// modulus of the arithmetic, of the source, terms, and the number by which a direct run of 37 is refused
+static CAUSES: [(u32, u32, u32, u8); 4] = [
+    (41, 43, 0, 13),
+    (37, 43, 0, 14),
+    (37, 37, 1048577, 15),
+    (37, 37, 8, 16),
+];
+
+// Another number of cells is left as it was, and 256 of them hold zeroes.
 #[test]
 fn counting_refuses_in_order(rt: HostRuntime) -> Result<(), Fail> {
     let mut run = Run::open(Kind::Doubling, 2, 37, 2)?;
     let mut direct = Run::open(Kind::Direct, 2, 37, 2)?;
     let mut few = [5u64; 255];
-    assert_eq!(rt; refused(&rt, &mut direct, 41, 43, &mut few, 0)?, 12);
-    assert_eq!(rt; few.iter().copied().min(), Some(5));
+    let number = refused_counting(&rt, &mut direct, 41, 43, &mut few, 0)?;
+    assert_eq!(rt; number, Some(12));
+    assert!(rt; all_hold(&few, 5));
     let mut many = [5u64; 257];
-    assert_eq!(rt; refused(&rt, &mut run, 37, 37, &mut many, 8)?, 12);
-    assert_eq!(rt; many.iter().copied().min(), Some(5));
-    let mut cells = [5u64; 256];
-    assert_eq!(rt; refused(&rt, &mut direct, 41, 43, &mut cells, 0)?, 13);
-    assert!(rt; all_zero(&cells));
-    let mut cells = [5u64; 256];
-    assert_eq!(rt; refused(&rt, &mut direct, 37, 43, &mut cells, 0)?, 14);
-    assert!(rt; all_zero(&cells));
-    let mut cells = [5u64; 256];
-    assert_eq!(rt; refused(&rt, &mut direct, 37, 37, &mut cells, 1048577)?, 15);
-    assert!(rt; all_zero(&cells));
-    let mut cells = [5u64; 256];
-    assert_eq!(rt; refused(&rt, &mut direct, 37, 37, &mut cells, 8)?, 16);
-    assert!(rt; all_zero(&cells));
+    let number = refused_counting(&rt, &mut run, 37, 37, &mut many, 8)?;
+    assert_eq!(rt; number, Some(12));
+    assert!(rt; all_hold(&many, 5));
+    for (modulus, source_modulus, terms, number) in CAUSES {
+        let mut cells = [5u64; 256];
+        let told = refused_counting(&rt, &mut direct, modulus, source_modulus, &mut cells, terms)?;
+        assert_eq!(rt; told, Some(number));
+        assert!(rt; all_hold(&cells, 0));
+    }
     assert_eq!(rt;
         count(&rt, &mut run, &Plain::new(37)?, &mut Divider::new(37)?, 18)?,
         18
     );
     let mut cells = [5u64; 256];
-    assert_eq!(rt; refused(&rt, &mut run, 37, 37, &mut cells, 8)?, 17);
-    assert!(rt; all_zero(&cells));
+    let number = refused_counting(&rt, &mut run, 37, 37, &mut cells, 8)?;
+    assert_eq!(rt; number, Some(17));
+    assert!(rt; all_hold(&cells, 0));
     Ok(())
 }

@@ -38,20 +38,20 @@ fn unfit_pairs(rt: HostRuntime) {
     for (index, modulus, generator, number) in UNFIT {
         let direct = refused(Run::open(Kind::Direct, index, modulus, generator));
         let doubling = refused(Run::open(Kind::Doubling, index, modulus, generator));
-        assert_eq!(rt; [direct, doubling], [number; 2]);
+        assert_eq!(rt; [direct, doubling], [Some(number); 2]);
     }
 }
 
-// kind, index, modulus, generator and the number of the refusal, or 0: by 17 the power 2^8 leaves 1, and by 9 the rows do not fit
-static NOT_USABLE: [(Kind, u32, u32, u32, u8); 7] = [
-    (Kind::Doubling, 8, 17, 3, 11),
-    (Kind::Direct, 8, 17, 3, 0),
-    (Kind::Doubling, 6, 17, 3, 0),
-    (Kind::Doubling, 2, 9, 2, 11),
-    (Kind::Direct, 2, 9, 2, 0),
+// kind, index, modulus, generator and the number of the refusal, if there is one: by 17 the power 2^8 leaves 1, and by 9 the rows do not fit
+static NOT_USABLE: [(Kind, u32, u32, u32, Option<u8>); 7] = [
+    (Kind::Doubling, 8, 17, 3, Some(11)),
+    (Kind::Direct, 8, 17, 3, None),
+    (Kind::Doubling, 6, 17, 3, None),
+    (Kind::Doubling, 2, 9, 2, Some(11)),
+    (Kind::Direct, 2, 9, 2, None),
     // several causes: the first of them
-    (Kind::Doubling, 8, 17, 1, 3),
-    (Kind::Doubling, 16, 17, 3, 4),
+    (Kind::Doubling, 8, 17, 1, Some(3)),
+    (Kind::Doubling, 16, 17, 3, Some(4)),
 ];
 
 #[test]

@@ -1,37 +1,20 @@
 // Shares of different sizes with changing arithmetics reach what single terms reach.
 use crate::told::{finished, standing};
-use arithmetic::{Balanced, Montgomery, Plain};
+use arithmetic::{Balanced, Either, Montgomery, Plain};
 use run::{LARGEST_SHARE, Run};
 use std::process::Abort;
 use std::test::Fail;
 use theory::Kind;
 
+type AnyArithmetic = Either<Plain, Either<Montgomery, Balanced>>;
+
 // All arithmetics of one modulus.
-#[derive(Clone, Copy)]
-struct Arithmetics {
-    plain: Plain,
-    montgomery: Montgomery,
-    balanced: Balanced,
-}
-
-impl Arithmetics {
-    fn new(modulus: u32) -> Result<Arithmetics, Fail> {
-        Ok(Arithmetics {
-            plain: Plain::new(modulus)?,
-            montgomery: Montgomery::new(modulus)?,
-            balanced: Balanced::new(modulus)?,
-        })
-    }
-}
-
-// One share, with the arithmetics in turn.
-fn carry(run: &mut Run, all: &Arithmetics, turn: u32, terms: u32) -> Result<u32, Fail> {
-    let share = match turn % 3 {
-        0 => run.carry_on(&all.plain, terms)?,
-        1 => run.carry_on(&all.montgomery, terms)?,
-        _ => run.carry_on(&all.balanced, terms)?,
-    };
-    Ok(share)
+fn arithmetics(modulus: u32) -> Result<[AnyArithmetic; 3], Fail> {
+    Ok([
+        Either::Left(Plain::new(modulus)?),
+        Either::Right(Either::Left(Montgomery::new(modulus)?)),
+        Either::Right(Either::Right(Balanced::new(modulus)?)),
+    ])
 }
 
 // Shares of `size` terms for eight turns and then all that is left, beside a run that takes its terms one by one.
@@ -43,24 +26,26 @@ fn beside_single_terms(
     index: u32,
     size: u32,
 ) -> Result<(), Fail> {
-    let all = Arithmetics::new(modulus)?;
+    let [plain, montgomery, balanced] = arithmetics(modulus)?;
+    let all = [&plain, &montgomery, &balanced];
     let mut run = Run::open(kind, index, modulus, generator)?;
     let mut single = Run::open(kind, index, modulus, generator)?;
-    for turn in 0..9u32 {
+    let sizes = [size; 8].into_iter().chain([LARGEST_SHARE]);
+    let turns = all.into_iter().cycle().skip(size as usize);
+    for (terms, arithmetic) in sizes.zip(turns) {
         if run.left() == 0 {
             break;
         }
-        let terms = if turn < 8 { size } else { LARGEST_SHARE };
-        let share = carry(&mut run, &all, turn.wrapping_add(size), terms)?;
+        let share = run.carry_on(arithmetic, terms)?;
         assert!(rt; share > 0);
         for _i in 0..share {
-            assert_eq!(rt; single.carry_on(&all.plain, 1)?, 1);
+            assert_eq!(rt; single.carry_on(&plain, 1)?, 1);
         }
         assert_eq!(rt; standing(&run), standing(&single));
     }
     assert_eq!(rt; run.left(), 0);
-    let residue = finished(run, &all.montgomery)?.residue();
-    assert_eq!(rt; residue, finished(single, &all.balanced)?.residue());
+    let residue = finished(run, &montgomery)?.residue();
+    assert_eq!(rt; residue, finished(single, &balanced)?.residue());
     Ok(())
 }
 

@@ -26,7 +26,7 @@ returns g c =
     let a = c.args.arithmetic.now in
     let m = w.modulus a in
     let r = w.residue a c.args.ratio in
-    let all : c.loop-number.number ≡ 256 = omega (arith, c.loop-number-test.false, c.loop-number.auto.number-end, c.requires.cells) in
+    let all : c.loop-number.number ≡ 256 = omega (arith, c.loop-number-test.false, c.loop-number.auto.number-end) in
     record {
       value = c.loop-number.invariant r c.powers_of-powers.ensures.value ∙ ap (λ (n : ℕ). cells_to m r 8 c.args.cells.now n % m) all;
     }

@@ -1,4 +1,5 @@
-use Rattle.std.proofs.Common.{◌≡◌, ℕ, ◌+◌, ◌-◌, ◌/◌, ◌%◌, ◌^◌, ◌<◌, ◌≤◌, ◌≢◌, sym, ap, ◌∙◌, subst, div-le_self, arith, true-eqb, false-eqb}
+use Rattle.std.proofs.Common.{◌≡◌, ℕ, ◌+◌, ◌-◌, ◌*◌, ◌/◌, ◌%◌, ◌^◌, ◌<◌, ◌≤◌, ◌≢◌, sym, ap, ◌∙◌, subst, arith, div-lt_iff_lt-mul, true-eqb, false-eqb}
+use native.Mathlib.Decide.{dec_lt}
 use Rattle.theory.specs.Doubling.{order}
 use Rattle.theory.specs.Pairs.{FitModulus}
 use Rattle.run.proofs.Divisors.{Tried, tried_none, tried_more, tried_least, least_is_order, cofactor_of, cofactor_falls}
@@ -56,9 +57,6 @@ returns-then-leaves_one g c =
 pub nonzero_div-least : goal.nonzero_div-least
 nonzero_div-least g c = c.loop-d.invariant.positive
 
-pub loop-d-smaller : goal.loop-d-smaller
-loop-d-smaller g c = omega (arith, c.loop-d-test.true, div-le_self (c.modulus-whole.result - 1) c.loop-d.d)
-
 pub loop-d-preserved : goal.loop-d-preserved
 loop-d-preserved g c =
     let a = c.args.arithmetic.now in
@@ -79,10 +77,40 @@ loop-d-preserved g c =
           subst (λ (n : ℕ). Tried p whole (d + 1) n) (sym w.least-is) (skipped p whole d c.loop-d.least c.loop-d.invariant w.if-whole-d-eq0.false)
     ]
 
+-- some number is tried: p − 1 is no 0
 pub returns : goal.returns
 returns g c =
+    let low = (g.met.W.Arithmetic.fit c.args.arithmetic.now).1 in
+    let root = c.isqrt-d-end.result in
+    let none : root ≡ 0 =
+    elim (dec_lt 0 root) [ yes some ↦ absurd (omega (arith, c.loop-d-test.false, c.loop-d.auto.d-end some)) | no past ↦ omega (arith, past) ] in
+    let past = rw none at c.isqrt-d-end.ensures.next_square_gt in
+    absurd (omega (arith, past, c.modulus-whole.ensures.value, low))
+
+-- the last number is tried: the next one is past the root
+pub returns-after-whole-d-eq0 : goal.returns-after-whole-d-eq0
+returns-after-whole-d-eq0 g c =
     let a = c.args.arithmetic.now in
+    let p = g.W.Arithmetic.modulus a in
+    let whole = c.modulus-whole.result - 1 in
+    let d = c.loop-d.d in
+    let low = (g.met.W.Arithmetic.fit a).1 in
+    let last : d ≡ c.isqrt-d-end.result = omega (arith, c.loop-d-test.true) in
+    let past : whole < (d + 1) * (d + 1) = rw last c.isqrt-d-end.ensures.next_square_gt in
+    let tried : Tried p whole (d + 1) c.if-whole-d-eq0.least =
+    elim c.if-whole-d-eq0.branch [
+      | then-whole-d-eq0+else-leaves_one+then-leaves_one-2 w ↦
+          subst (λ (n : ℕ). Tried p whole (d + 1) n) (sym w.least-is)
+          (lower p whole d c.loop-d.least (omega (arith, c.modulus-whole.ensures.value, low)) c.loop-d.invariant w.if-whole-d-eq0.true
+          (false-eqb _ 1 w.if-leaves_one.ensures.value) (true-eqb _ 1 w.if-leaves_one-2.ensures.value))
+      | then-whole-d-eq0+else-leaves_one+else-leaves_one-2 w ↦
+          subst (λ (n : ℕ). Tried p whole (d + 1) n) (sym w.least-is)
+          (neither p whole d c.loop-d.least c.loop-d.invariant
+          (false-eqb _ 1 w.if-leaves_one.ensures.value) (false-eqb _ 1 w.if-leaves_one-2.ensures.value))
+      | else-whole-d-eq0 w ↦
+          subst (λ (n : ℕ). Tried p whole (d + 1) n) (sym w.least-is) (skipped p whole d c.loop-d.least c.loop-d.invariant w.if-whole-d-eq0.false)
+    ] in
     record {
-      value = ended (g.W.Arithmetic.modulus a) c.modulus-whole.result c.loop-d.d c.loop-d.least c.modulus-whole.ensures.value
-          (g.met.W.Arithmetic.fit a) c.requires.whole c.loop-d.invariant c.loop-d-test.false;
+      value = ended p c.modulus-whole.result (d + 1) c.if-whole-d-eq0.least c.modulus-whole.ensures.value (g.met.W.Arithmetic.fit a) c.requires.whole tried
+          ((div-lt_iff_lt-mul {k = d + 1} {x = whole} {y = d + 1} (omega arith)).1 past);
     }

@@ -1,9 +1,5 @@
-use Rattle.std.proofs.Common.{◌+◌, ◌-◌}
 use Rattle.run.proofs.Divisors.{Tried}
 use Rattle.run.proofs.order.order_of_two.Given as goal
 
 abbrev pub invariant-loop-d : goal.invariant-loop-d
 invariant-loop-d g l = Tried (g.W.Arithmetic.modulus l.arithmetic) l.whole l.d l.least
-
-abbrev pub decreases-loop-d : goal.decreases-loop-d
-decreases-loop-d g l = l.whole + 1 - l.d

@@ -1,14 +1,14 @@
-use Rattle.std.proofs.Common.{◌≡◌, ℕ, ◌+◌, ◌-◌, ◌*◌, ◌/◌, ◌%◌, ◌^◌, ◌<◌, ◌≤◌, sym, refl, ap, ◌∙◌, add-zero, add_assoc, arith}
+use Rattle.std.proofs.Common.{◌≡◌, ℕ, ◌+◌, ◌-◌, ◌*◌, ◌/◌, ◌%◌, ◌^◌, ◌<◌, sym, ap, ◌∙◌, add-zero, add_assoc, arith}
 use Rattle.theory.specs.declared.kind.Kind.TheVariants.{Direct}
 use Rattle.theory.specs.Direct.{half_below, direct_point}
-use Rattle.theory.specs.Kinds.{partial_sum, can_run}
+use Rattle.theory.specs.Kinds.{partial_sum}
 use Rattle.theory.proofs.Modular.{pow-mod, direct_point_under}
 use Rattle.run.specs.declared.progress.DirectPlace.{DirectPlace}
 use Rattle.run.specs.declared.progress.Progress.TheVariants.{Direct as AtDirect}
 use Rattle.run.specs.declared.state.Run.{Run}
 use Rattle.run.specs.Places.{kind_of, progress_after}
 use Rattle.run.proofs.DirectTerms.{Standing, standing_from_progress, term_worked, progress_from_standing, sum_from_standing, half_below_residue}
-use Rattle.run.proofs.state.Run.take_direct.Goals as goal
+use Rattle.run.proofs.share.Share.take_direct.Goals as goal
 
 -- a run that is direct, brought into an arithmetic of modulus m
 begun : (run : Run) (m : ℕ) (d : DirectPlace) (s v' : ℕ) → m ≡ run.modulus → run.progress ≡ AtDirect d → s ≡ run.sum % m → v' ≡ d.weight % m
@@ -26,25 +26,25 @@ begun run m d s v' same place sum weight =
 
 pub loop-i-init : goal.loop-i-init
 loop-i-init g c =
-    begun c.args.self.now _ c.args.from _ _ c.requires.same c.requires.place c.bring_in-sum.ensures.value c.bring_in-weight.ensures.value
+    begun c.args.self.now.run.now _ c.args.from _ _ c.args.self.now.same c.requires.place c.bring_in-sum.ensures.value c.bring_in-weight.ensures.value
 
 pub times-quotient-requires : goal.times-quotient-requires
 times-quotient-requires g c =
     let w = g.W.Arithmetic in
-    let a = c.args.arithmetic.now in
-    let t = c.args.self.now.taken + c.loop-i._i in
-    let positive : 0 < w.modulus a = omega (arith, c.requires.same, c.args.self.now.fit.0.1) in
-    let under : direct_point (w.modulus a) c.args.self.now.generator (t + 1) < w.modulus a =
-    direct_point_under (w.modulus a) c.args.self.now.generator (t + 1) positive in
-    record { below = omega (arith, under, c.loop-i.invariant.point_is, c.new-generator.ensures.modulus, c.requires.same) }
+    let a = c.args.self.now.arithmetic.now in
+    let t = c.args.self.now.run.now.taken + c.loop-i._i in
+    let positive : 0 < w.modulus a = omega (arith, c.args.self.now.same, c.args.self.now.run.now.fit.0.1) in
+    let under : direct_point (w.modulus a) c.args.self.now.run.now.generator (t + 1) < w.modulus a =
+    direct_point_under (w.modulus a) c.args.self.now.run.now.generator (t + 1) positive in
+    record { below = omega (arith, under, c.loop-i.invariant.point_is, c.new-generator.ensures.modulus, c.args.self.now.same) }
 
 pub loop-i-preserved : goal.loop-i-preserved
 loop-i-preserved g c =
     let w = g.W.Arithmetic in
-    let a = c.args.arithmetic.now in
+    let a = c.args.self.now.arithmetic.now in
     let m = w.modulus a in
-    let run = c.args.self.now in
-    let same = c.requires.same in
+    let run = c.args.self.now.run.now in
+    let same = c.args.self.now.same in
     let factor = c.new-generator.ensures.factor in
     let modulus = c.new-generator.ensures.modulus in
     let quotient = c.times-quotient.ensures.quotient in
@@ -67,26 +67,21 @@ loop-i-preserved g c =
     rw (← add_assoc) further
 
 -- where the arithmetic's modulus is the run's
-ended : (p m g k t n s x v s' v' : ℕ) → m ≡ p → n ≡ t → s' ≡ s → v' ≡ v → Standing m g k n s x v
-    → (s' ≡ partial_sum Direct p g k t) × (AtDirect (record { point = x; weight = v' }) ≡ progress_after Direct p g k t)
-ended p m g k t n s x v s' v' same terms sum weight at =
-    rw (sum, weight, ← same, ← terms) (sum_from_standing m g k n s x v at, progress_from_standing m g k n s x v at)
+ended : (run : Run) (m t n s x v s' v' : ℕ) → m ≡ run.modulus → kind_of run.progress ≡ Direct → n ≡ t → s' ≡ s → v' ≡ v
+    → Standing m run.generator run.index n s x v
+    → (s' ≡ partial_sum (kind_of run.progress) run.modulus run.generator run.index t)
+    × (AtDirect (record { point = x; weight = v' }) ≡ progress_after (kind_of run.progress) run.modulus run.generator run.index t)
+ended run m t n s x v s' v' same kind terms sum weight at =
+    rw (kind, sum, weight, ← same, ← terms)
+    (sum_from_standing m run.generator run.index n s x v at, progress_from_standing m run.generator run.index n s x v at)
 
-pub invariant_of-self : goal.invariant_of-self
-unfolding can_run
-invariant_of-self g c =
+pub returns : goal.returns
+returns g c =
     let w = g.W.Arithmetic in
-    let a = c.args.arithmetic.now in
-    let run = c.args.self.now in
-    let all : run.taken + c.loop-i._i ≡ run.taken + c.args.terms = omega (arith, c.loop-i-test.false, c.loop-i.auto._i-end) in
-    let kept = ended run.modulus (w.modulus a) run.generator run.index (run.taken + c.args.terms) (run.taken + c.loop-i._i)
-    (w.residue a c.loop-i.sum) c.loop-i.point (w.residue a c.loop-i.weight) c.take_out-self.result c.take_out.result
-    c.requires.same all c.take_out-self.ensures.value c.take_out.ensures.value c.loop-i.invariant in
-    let within : run.taken + c.args.terms ≤ (run.modulus - 1) / 2 = omega (arith, c.requires.room, run.within) in
-    record {
-      fit = run.fit;
-      usable = refl;
-      within = within;
-      summed = kept.0;
-      placed = kept.1;
-    }
+    let a = c.args.self.now.arithmetic.now in
+    let run = c.args.self.now.run.now in
+    let all : run.taken + c.loop-i._i ≡ run.taken + c.args.self.now.terms = omega (arith, c.loop-i-test.false, c.loop-i.auto._i-end) in
+    let kept = ended run (w.modulus a) (run.taken + c.args.self.now.terms) (run.taken + c.loop-i._i)
+    (w.residue a c.loop-i.sum) c.loop-i.point (w.residue a c.loop-i.weight) c.take_out-2.result c.take_out.result
+    c.args.self.now.same (ap kind_of c.requires.place) all c.take_out-2.ensures.value c.take_out.ensures.value c.loop-i.invariant in
+    record { reached = kept }
