@@ -12,23 +12,19 @@ use std::process::Abort;
 use std::test::Fail;
 use table::{Fault, Layer};
 
-// The number of a refusal, 0 for none.
-fn number(answer: Result<(), Refusal>) -> u8 {
-    match answer {
-        Ok(()) => 0,
-        Err(refusal) => refusal.number(),
-    }
+// The number of a refusal, where there is one.
+fn number<T: Drop>(answer: Result<T, Refusal>) -> Option<u8> {
+    answer.err().map(|refusal| refusal.number())
 }
 
-// A reading as number, record and 1 for a fault of the job; all 0 for none.
-fn told(answer: Result<(), Fault>) -> (u8, u32, u8) {
-    match answer {
-        Ok(()) => (0, 0, 0),
-        Err(fault) => match fault.layer {
-            Layer::File(_) => (fault.number(), fault.record, 0),
-            Layer::Job(_) => (fault.number(), fault.record, 1),
-        },
-    }
+// The number of a fault, its record, and whether it is one of the job.
+fn told(answer: Result<(), Fault>) -> Option<(u8, u32, bool)> {
+    let fault = answer.err()?;
+    Some((
+        fault.number(),
+        fault.record,
+        matches!(fault.layer, Layer::Job(_)),
+    ))
 }
 
 fn file_of(heap: Global, words: &[u32]) -> Result<Vec<u8>, AllocError> {
@@ -41,12 +37,10 @@ fn file_of(heap: Global, words: &[u32]) -> Result<Vec<u8>, AllocError> {
     Ok(bytes)
 }
 
-// The pair at a position of the chain, 0 and 0 past its end.
-fn pair(listing: &Listing, position: usize) -> (u32, u32) {
-    match listing.pair(position) {
-        Some(pair) => (pair.modulus, pair.generator),
-        None => (0, 0),
-    }
+// The pair at a position of the chain.
+fn pair(listing: &Listing, position: usize) -> Option<(u32, u32)> {
+    let pair = listing.pair(position)?;
+    Some((pair.modulus, pair.generator))
 }
 
 fn listing_of(
@@ -56,9 +50,9 @@ fn listing_of(
     pairs: &[(u32, u32)],
 ) -> Result<Listing, Fail> {
     let mut listing = Listing::new(heap)?;
-    assert_eq!(rt; number(listing.begin(index)), 0);
+    assert_eq!(rt; number(listing.begin(index)), None);
     for (modulus, generator) in pairs {
-        assert_eq!(rt; number(listing.enter(*modulus, *generator)), 0);
+        assert_eq!(rt; number(listing.enter(*modulus, *generator)), None);
     }
     Ok(listing)
 }

@@ -1,4 +1,5 @@
 // The text lines.
+use super::number;
 use line::{Line, put_line};
 use std::process::Abort;
 use theory::Kind;
@@ -6,10 +7,7 @@ use theory::Kind;
 // The line stands at the front of the output, what was behind it stays, and one byte less is too little.
 fn shows(rt: &impl Abort, line: Line, expected: &[u8]) {
     let mut output = [7u8; 64];
-    let count = match put_line(&mut output, line) {
-        Ok(count) => count,
-        Err(_) => 0,
-    };
+    let count = put_line(&mut output, line).unwrap_or(0);
     assert!(rt; count == expected.len());
     for (i, byte) in output.iter().enumerate() {
         if i < expected.len() {
@@ -20,10 +18,7 @@ fn shows(rt: &impl Abort, line: Line, expected: &[u8]) {
     }
     let mut short = [7u8; 64];
     if count > 0 && count < 64 {
-        match put_line(&mut short[0..count - 1], line) {
-            Ok(_) => assert!(rt; false),
-            Err(refusal) => assert_eq!(rt; refusal.number(), 23),
-        }
+        assert_eq!(rt; number(put_line(&mut short[0..count - 1], line)), Some(23));
     }
     for byte in short {
         assert_eq!(rt; byte, 7);
