@@ -166,7 +166,7 @@ fn full_again(rt: HostRuntime) -> Result<(), Fail> {
     for _ in 0..1023 {
         assert_eq!(rt;
             number(listing.enter(modulus.reverse_bits() / 2 | 1 | 4, 2)),
-            0
+            None
         );
         modulus = modulus.wrapping_add(1);
     }
