@@ -13,6 +13,7 @@ pub struct Plain {
     modulus: Modulus,
 }
 
+// An element does not hold its modulus, so what bounds its word is told by each operation, and not by its type.
 // A word that stands for its remainder by p. The operations only make words below p.
 #[derive(Clone, Copy, Debug)]
 pub struct PlainElement(u32);

@@ -22,7 +22,7 @@ pub enum Line {
         residue: u32,
         kind: Kind,
     },
-    // the number of a fault and its record
+    // the number of a fault and its record; numbers and no fault, as a line is put out from whatever numbers it is given
     Refused {
         number: u8,
         record: u32,

@@ -1,6 +1,7 @@
 // Bernoulli numbers as they are published, and the primes that they are held against.
 
-// B_k, in lowest terms: its sign, and the digits of its numerator, as there are up to 43 of them.
+// B_k, in lowest terms: its sign, and the digits of its numerator, as there are up to 43 of them. The flag is the sign
+// itself, and tells of no value that may be missing.
 #[derive(Clone, Copy)]
 pub struct Value {
     pub index: u32,

@@ -25,6 +25,7 @@ pub(crate) fn take_stretch<W: Arithmetic>(
     ensures point { result.point ≡ 2 ^ terms * from.point % W.modulus arithmetic.now }
     ensures weight { W.residue arithmetic.now result.weight ≡ W.residue arithmetic.now from.weight * W.residue arithmetic.now ratio ^ terms % W.modulus arithmetic.now }
 {
+    // locals, and no struct of them: the loop is hot
     let p = arithmetic.modulus();
     let mut sum = from.sum;
     let mut point = from.point;

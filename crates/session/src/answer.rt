@@ -30,6 +30,8 @@ impl From<&FinishedResidue> for Outcome {
     }
 }
 
+// One list of cases, a refusal and a call that is not made among them: the law speaks of calls with their answers, and a
+// result inside a result would be no plainer.
 #[derive(Clone, Copy, PartialEq, Eq, Debug)]
 pub enum Answer {
     // the listing is begun, or the pair entered

@@ -7,7 +7,7 @@ use arithmetic::Refusal;
 
 #[derive(Clone, Copy, PartialEq, Eq, Debug)]
 pub struct Fault {
-    // the record looked at, 0 where it is the head or the file as a whole
+    // the record looked at, 0 where it is the head or the file as a whole; no option, as the 0 is told as it stands
     pub record: u32,
     pub layer: Layer,
 }

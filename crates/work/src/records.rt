@@ -36,6 +36,7 @@ fn open_run(book: &Book, modulus: u32) -> Result<Run, Refusal>
     }
 }
 
+// No `From`: a line, a finished residue and a fault are each of a crate that knows none of the others.
 fn residue_line(finished: &FinishedResidue) -> Line
     ensures value { result ≡ Line.Residue finished.now.index finished.now.modulus finished.now.residue finished.now.kind }
 {

@@ -11,24 +11,16 @@ use digits::{DigitSource, Reciprocal};
 use run::{FinishedResidue, LARGEST_SHARE, Run};
 use theory::Kind;
 
-// The result of the whole run, wherever it stands.
+// The result of the whole run, wherever it stands. A doubling run's terms are taken by counting.
 pub fn work_run(mut run: Run) -> FinishedResidue
     ensures result { ResultOf result (kind_of run.progress) run.index run.modulus run.generator }
 {
     let montgomery = Montgomery::new(run.modulus()).unwrap();
-    take_all(&mut run, &montgomery);
-    run.finish(&montgomery).unwrap()
-}
-
-// Takes all terms left, a doubling run's by counting.
-fn take_all<W: Arithmetic>(run: &mut Run, arithmetic: &W)
-    requires same { W.modulus arithmetic.now ≡ run.old.modulus }
-    ensures stands { Stands run.new (kind_of run.old.progress) run.old.index run.old.modulus run.old.generator (terms_of run.old.modulus) }
-{
     match run.kind() {
-        Kind::Direct => carry_to_end(run, arithmetic),
-        Kind::Doubling => count_to_end(run, arithmetic),
+        Kind::Direct => carry_to_end(&mut run, &montgomery),
+        Kind::Doubling => count_to_end(&mut run, &montgomery),
     }
+    run.finish(&montgomery).unwrap()
 }
 
 // Takes all terms left one by one.

@@ -43,6 +43,8 @@ impl Listing {
         self.table.enter(modulus, generator)
     }
 
+    // Index, count, pair and writing are one line each for a listing and a book: a trait of both would be no plainer, and
+    // would have to show the table to every caller.
     pub fn index(&self) -> u32
         ensures value { result ≡ (listing self.now).index }
     {
