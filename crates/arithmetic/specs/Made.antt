@@ -1,4 +1,4 @@
--- What making an arithmetic or a digit source promises.
+-- What making a modulus, an arithmetic or a digit source promises.
 -- Assumes nothing.
 use Rattle.std.specs.Prelude.{◌≡◌, ℕ, Ok, Err, Result}
 use Rattle.theory.specs.Pairs.{FitModulus}

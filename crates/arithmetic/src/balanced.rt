@@ -14,8 +14,8 @@ pub struct Balanced {
     modulus: Modulus,
 }
 
-// An element does not hold its modulus, so what bounds its word is told by each operation, and not by its type.
 // A signed word that stands for its remainder by p. The operations only make words from −(p − 1)/2 to (p − 1)/2.
+// An element does not hold its modulus, so what bounds its word is told by each operation, and not by its type.
 #[derive(Clone, Copy, Debug)]
 pub struct BalancedElement(i32);
 

@@ -20,8 +20,8 @@ pub struct Montgomery {
     ghost squared: { square ≡ 2 ^ 64 % modulus.number },
 }
 
-// An element does not hold its modulus, so what bounds its word is told by each operation, and not by its type.
 // A word that stands for its 2^32nd part modulo p. Of words below p the operations only make words below p.
+// An element does not hold its modulus, so what bounds its word is told by each operation, and not by its type.
 #[derive(Clone, Copy, Debug)]
 pub struct MontgomeryElement(u32);
 

@@ -13,11 +13,12 @@ pub struct Plain {
     modulus: Modulus,
 }
 
-// An element does not hold its modulus, so what bounds its word is told by each operation, and not by its type.
 // A word that stands for its remainder by p. The operations only make words below p.
+// An element does not hold its modulus, so what bounds its word is told by each operation, and not by its type.
 #[derive(Clone, Copy, Debug)]
 pub struct PlainElement(u32);
 
+// Each arithmetic makes itself: what a trait of the three could share is one line.
 impl Plain {
     pub fn new(modulus: u32) -> Result<Plain, Refusal>
         ensures made { Made modulus (λ a. a.modulus.number) result }

@@ -57,6 +57,7 @@ impl Refusal {
     }
 }
 
+// By hand, and not derived: a derived text carries no promise.
 impl fmt::Display for Refusal {
     ghost output = { λ refusal. Some (refusal_text refusal) };
 

@@ -14,6 +14,7 @@ fn part<W: Arithmetic>(arithmetic: &W, own: Option<W::Element>) -> W::Element
     own.unwrap_or_else(|| arithmetic.bring_in(0))
 }
 
+// Adding, subtracting and multiplying are alike but for their method: to name it for both sides takes two closures, no plainer.
 impl<L: Arithmetic, R: Arithmetic> Arithmetic for Either<L, R> {
     type Element = Either<L::Element, R::Element>;
 

@@ -5,6 +5,7 @@ ghost use Rattle.theory.specs.Residues.{minus};
 
 // Residues modulo an odd number from 5 to 2147483647, kept as elements of a kind of its own. No operation refuses.
 pub trait Arithmetic {
+    // No equality is asked of it: of some arithmetics several elements stand for one residue.
     type Element: Copy;
 
     ghost modulus: { Self → ℕ };

@@ -24,10 +24,7 @@ fn show_value(rt: &HostRuntime, value: Value) -> Result<Tally, Stop> {
     } = value;
     let sign = if negative { "-" } else { "" };
     print!(rt; "B_{index} = {sign}{numerator}/{denominator}:")?;
-    let mut tally = Tally {
-        tried: 0,
-        agreed: 0,
-    };
+    let mut tally = Tally::default();
     for prime in PRIMES {
         let modulus = prime.modulus;
         if modulus.saturating_sub(3) < index {
@@ -54,15 +51,13 @@ fn show_value(rt: &HostRuntime, value: Value) -> Result<Tally, Stop> {
 }
 
 fn main(rt: HostRuntime) -> Result<(), Stop> {
-    let mut tried = 0u32;
-    let mut agreed = 0u32;
+    let mut all = Tally::default();
     for value in VALUES {
-        let tally = show_value(&rt, value)?;
-        tried = tried.saturating_add(tally.tried);
-        agreed = agreed.saturating_add(tally.agreed);
+        all.add(show_value(&rt, value)?);
     }
     refused_pairs(&rt)?;
     largest_modulus(&rt)?;
+    let Tally { tried, agreed } = all;
     println!(rt; "{agreed} of {tried} ways agree")?;
     if agreed != tried {
         return Err(Stop::Disagreement);

@@ -15,13 +15,18 @@ pub struct Case {
 }
 
 // How many ways were tried, and how many of them gave the residue.
-#[derive(Clone, Copy)]
+#[derive(Clone, Copy, Default)]
 pub struct Tally {
     pub tried: u32,
     pub agreed: u32,
 }
 
 impl Tally {
+    pub(crate) fn add(&mut self, other: Tally) {
+        self.tried = self.tried.saturating_add(other.tried);
+        self.agreed = self.agreed.saturating_add(other.agreed);
+    }
+
     fn note(&mut self, agrees: bool) {
         self.tried = self.tried.saturating_add(1);
         if agrees {
@@ -43,6 +48,7 @@ impl Case {
         Ok(finished.residue() == self.residue)
     }
 
+    // Singly and counted differ in what a share needs: a closure for it would take source and cells along.
     fn singly<W: Arithmetic>(self, kind: Kind, arithmetic: &W) -> Result<bool, Stop> {
         let mut run = self.open(kind)?;
         for _i in 0..run.left().div_ceil(SHARE) {

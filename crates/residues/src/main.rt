@@ -15,6 +15,7 @@ use work::{fault_line, work_record};
 // Every record of a released listing waits until it is worked, so that each of them gives its line.
 fn show_residues(rt: &HostRuntime, listing: Listing) -> Result<(), Stop> {
     let mut book = listing.release();
+    // by position, as working a record changes the book
     for position in 0..book.count() {
         let line = work_record(&mut book, position).unwrap();
         show_line(rt, line)?;

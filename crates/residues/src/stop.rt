@@ -11,7 +11,7 @@ pub enum Stop {
     Stream(#[from] io::Error),
 }
 
-// by hand, as the derive would have the variant hold the error, which tells nothing, and print it
+// by hand: a derived one would have the variant hold the error, and `main` print it so
 impl From<AllocError> for Stop {
     fn from(_error: AllocError) -> Stop {
         Stop::Memory

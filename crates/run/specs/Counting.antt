@@ -38,5 +38,5 @@ abbrev pub Room : ℕ → ℕ → List ℕ → List ℕ → Type 0
 Room p n before after = (i : ℕ) → slice_index after i ≤ slice_index before i + n * p
 
 -- the source's modulus is as it was, and its count has risen by n groups, up to its cap
-abbrev pub Handed : {S : Type 0} → (S → ℕ) → (S → ℕ) → S → S → ℕ → Type 0
-Handed modulus taken before after n = (modulus after ≡ modulus before) × (taken after ≡ capped (taken before + n))
+abbrev pub HandsOut : {S : Type 0} → (S → ℕ) → (S → ℕ) → S → S → ℕ → Type 0
+HandsOut modulus taken before after n = (modulus after ≡ modulus before) × (taken after ≡ capped (taken before + n))

@@ -3,6 +3,8 @@
 use Rattle.std.specs.Prelude.{◌≡◌, ℕ, ◌+◌, ◌-◌, ◌*◌, ◌/◌, ◌%◌, ◌≤◌}
 use Rattle.theory.specs.Doubling.{row_length_of, doubling_point, doubling_weight, doubling_sum}
 
+-- numbers, and no walk: the walk's own ghost field says this of it, and cannot be given the struct that it stands in
+
 -- after so many terms taken a walk stands at this place of row i; where the place is the length of the row, the row is at
 -- its end
 pub record InRow (p g k i taken place row_point row_weight point weight : ℕ) : Type 0 where

@@ -1,6 +1,6 @@
 // The terms of a doubling run, counted in groups of eight.
 ghost use Rattle.std.specs.Prelude.{◌≡◌, ℕ, ◌+◌, ◌*◌, ◌%◌, ◌^◌, ◌<◌, ◌≤◌, slice_index};
-ghost use Rattle.run.specs.Counting.{Room, Handed, weighed, groups_of};
+ghost use Rattle.run.specs.Counting.{Room, HandsOut, weighed, groups_of};
 ghost use Rattle.run.specs.Reached.{Reached};
 ghost use Rattle.theory.specs.Direct.{terms_of};
 ghost use Rattle.theory.specs.Doubling.{row_length_of, doubling_sum};
@@ -26,7 +26,7 @@ impl<W: Arithmetic> RowWalk<'_, W> {
         ensures sum { self.new.next.sum ≡ self.old.next.sum }
         ensures counted { (s : ℕ) → (s + weighed self.old.rows.modulus (W.residue self.old.rows.arithmetic.now self.old.rows.ratio) 8 cells.old) % self.old.rows.modulus ≡ doubling_sum self.old.rows.modulus self.old.rows.generator self.old.rows.index self.old.taken → (s + weighed self.old.rows.modulus (W.residue self.old.rows.arithmetic.now self.old.rows.ratio) 8 cells.new) % self.old.rows.modulus ≡ doubling_sum self.old.rows.modulus self.old.rows.generator self.old.rows.index (self.old.taken + 8 * groups) }
         ensures room { Room self.old.rows.modulus groups cells.old cells.new }
-        ensures source { Handed S.modulus S.taken source.old source.new groups }
+        ensures source { HandsOut S.modulus S.taken source.old source.new groups }
     {
         self.next = take_groups(&self.rows, source, cells, self.next, groups);
         self.taken += 8 * groups;
@@ -59,7 +59,7 @@ impl<W: Arithmetic> Share<'_, '_, W> {
         requires place { self.now.run.now.progress ≡ Progress.Doubling from }
         requires few { self.now.terms ≤ 1048576 }
         ensures reached { Reached self.now.run.now self.now.terms result }
-        ensures source { Handed S.modulus S.taken source.old source.new (groups_of 8 (row_length_of self.now.run.now.modulus) (self.now.run.now.taken % row_length_of self.now.run.now.modulus) self.now.terms) }
+        ensures source { HandsOut S.modulus S.taken source.old source.new (groups_of 8 (row_length_of self.now.run.now.modulus) (self.now.run.now.taken % row_length_of self.now.run.now.modulus) self.now.terms) }
     {
         *cells = [0; 256];
         let mut walk = RowWalk::begin(self, from);

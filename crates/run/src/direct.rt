@@ -23,6 +23,7 @@ impl<W: Arithmetic> Share<'_, '_, W> {
             arithmetic.bring_in(run.generator),
             run.index - 1,
         );
+        // locals, and no struct of them: the loop is hot
         let mut sum = arithmetic.bring_in(run.sum);
         let mut weight = arithmetic.bring_in(from.weight);
         let mut point = from.point;

@@ -6,7 +6,8 @@ ghost use Rattle.theory.specs.Pairs.{Fit};
 use theory::Kind;
 
 // The result of a whole run, with the index and the pair that it is of. None can be made but by finishing a run, and
-// filling it in uses it up.
+// filling it in uses it up. Index, modulus and generator stand each for itself, here and in a run: clauses, definitions and
+// calls name one of them at a time, and a struct of the three would stand before each for two ghost fields said once less.
 #[derive(Debug, Drop)]
 pub struct FinishedResidue {
     pub(crate) kind: Kind,

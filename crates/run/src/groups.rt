@@ -1,6 +1,6 @@
 // Groups of eight terms, counted into cells.
 ghost use Rattle.std.specs.Prelude.{◌≡◌, ℕ, ◌+◌, ◌*◌, ◌/◌, ◌%◌, ◌^◌, ◌<◌, slice_index, slice_set};
-ghost use Rattle.run.specs.Counting.{Counted, Room, Handed};
+ghost use Rattle.run.specs.Counting.{Counted, Room, HandsOut};
 
 use crate::rows::Rows;
 use crate::stretch::Stretch;
@@ -14,7 +14,7 @@ fn deposit<S: DigitSource>(source: &mut S, cells: &mut [u64; 256], point: u32, w
     requires room { (i : ℕ) → slice_index cells.old i + weight < 2 ^ 64 }
     ensures point { result ≡ 256 * point % S.modulus source.old }
     ensures cells { cells.new ≡ slice_set cells.old (256 * point / S.modulus source.old) (slice_index cells.old (256 * point / S.modulus source.old) + weight) }
-    ensures source { Handed S.modulus S.taken source.old source.new 1 }
+    ensures source { HandsOut S.modulus S.taken source.old source.new 1 }
 {
     let (group, next) = source.group(point);
     let cell = group as usize;
@@ -23,7 +23,7 @@ fn deposit<S: DigitSource>(source: &mut S, cells: &mut [u64; 256], point: u32, w
 }
 
 // Counts so many groups on end in a row. Two chains of weights, for every other group each, so that one product does not
-// wait for the one before it.
+// wait for the one before it. They and the point are locals, and no struct of them: the loop is hot.
 pub(crate) fn take_groups<W: Arithmetic, S: DigitSource>(
     rows: &Rows<W>,
     source: &mut S,
@@ -37,7 +37,7 @@ pub(crate) fn take_groups<W: Arithmetic, S: DigitSource>(
     ensures counted { Counted rows.now.modulus (W.residue rows.now.arithmetic.now rows.now.ratio) 8 groups from.point (W.residue rows.now.arithmetic.now from.weight) result.point (W.residue rows.now.arithmetic.now result.weight) cells.old cells.new }
     ensures room { Room rows.now.modulus groups cells.old cells.new }
     ensures sum { result.sum ≡ from.sum }
-    ensures source { Handed S.modulus S.taken source.old source.new groups }
+    ensures source { HandsOut S.modulus S.taken source.old source.new groups }
 {
     let arithmetic = rows.arithmetic;
     let mut point = from.point;
@@ -49,18 +49,19 @@ pub(crate) fn take_groups<W: Arithmetic, S: DigitSource>(
         point = deposit(source, cells, point, arithmetic.take_out(odd));
         odd = arithmetic.mul(odd, rows.sixteenth);
     }
-    let sum = from.sum;
     if groups % 2 == 0 {
+        let weight = even;
         return Stretch {
-            sum,
             point,
-            weight: even,
+            weight,
+            ..from
         };
     }
     let point = deposit(source, cells, point, arithmetic.take_out(even));
+    let weight = odd;
     Stretch {
-        sum,
         point,
-        weight: odd,
+        weight,
+        ..from
     }
 }

@@ -12,7 +12,8 @@ use crate::stretch::{Stretch, take_stretch};
 use arithmetic::Arithmetic;
 use theory::Kind;
 
-// A share of a doubling run while it is worked: where it stands in the rows.
+// A share of a doubling run while it is worked: where it stands in the rows. That a method leaves the rows as they were is
+// a clause of each: what else it leaves differs.
 #[derive(Drop)]
 pub(crate) struct RowWalk<'a, W: Arithmetic> {
     pub(crate) rows: Rows<'a, W>,

@@ -9,6 +9,7 @@ use crate::state::State;
 use arithmetic::{Arithmetic, Refusal};
 use digits::DigitSource;
 
+// By the number, here and where a run is told of: after `get_mut` no name of the source says what the runs hold then.
 impl State {
     pub(crate) fn carry_on<W: Arithmetic>(
         &mut self,

@@ -9,7 +9,7 @@ use Rattle.std.proofs.lemmas.Option.{slice_get-map}
 use Rattle.table.specs.declared.pair.Pair.{Pair}
 use Rattle.table.specs.declared.pair.Record.{Record}
 use Rattle.table.specs.Chain.{chained, rises, walk, place, rows, row, head, next_in, modulus_in, pair_in, pairs_along, numbered}
-use Rattle.table.specs.Walk.{before, met}
+use Rattle.table.specs.Walk.{met_first, met}
 use Rattle.table.proofs.Chains.{Step, rises_step, place_on, place_here, place_end}
 use Rattle.table.proofs.Records.{numbered_at, row_at}
 
@@ -17,7 +17,7 @@ use Rattle.table.proofs.Records.{numbered_at, row_at}
 pub met_none : (rs : List Record) (left i : ℕ) → numbered rs i ≡ None → met rs left i ≡ []
 unfolding met
 met_none rs zero i h = refl
-met_none rs (suc left) i h = ap (before i (met rs left)) h
+met_none rs (suc left) i h = ap (met_first i (met rs left)) h
 
 pub met_over : (rs : List Record) (left i : ℕ) → left ≡ 0 → met rs left i ≡ []
 unfolding met
@@ -30,7 +30,7 @@ unfolding met
 met_on rs zero others i r e h = absurd (omega arith)
 met_on rs (suc left) others i r e h =
     let same : left ≡ others = omega arith in
-    ap (before i (met rs left)) h ∙ ap (λ (n : ℕ). (i, r) ∷ met rs n r.next) same
+    ap (met_first i (met rs left)) h ∙ ap (λ (n : ℕ). (i, r) ∷ met rs n r.next) same
 
 -- along a rising chain each step is met
 module _ (first : ℕ) (rs : List Record) where

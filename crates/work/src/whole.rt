@@ -23,6 +23,8 @@ pub fn work_run(mut run: Run) -> FinishedResidue
     run.finish(&montgomery).unwrap()
 }
 
+// Two loops, and no closure in one: a closure's contract would say again what the call in it promises.
+
 // Takes all terms left one by one.
 fn carry_to_end<W: Arithmetic>(run: &mut Run, arithmetic: &W)
     requires same { W.modulus arithmetic.now ≡ run.old.modulus }

@@ -9,13 +9,9 @@ fn shows(rt: &impl Abort, line: Line, expected: &[u8]) {
     let mut output = [7u8; 64];
     let count = put_line(&mut output, line).unwrap_or(0);
     assert!(rt; count == expected.len());
-    for (i, byte) in output.iter().enumerate() {
-        if i < expected.len() {
-            assert_eq!(rt; *byte, expected[i]);
-        } else {
-            assert_eq!(rt; *byte, 7);
-        }
-    }
+    let (front, rest) = output.split_at(count.min(64));
+    assert!(rt; front == expected);
+    assert!(rt; rest.iter().all(|byte| *byte == 7));
     let mut short = [7u8; 64];
     if count > 0 && count < 64 {
         assert_eq!(rt; number(put_line(&mut short[0..count - 1], line)), Some(23));

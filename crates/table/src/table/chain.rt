@@ -64,8 +64,8 @@ impl<'a> Chain<'a> {
     }
 }
 
-// Has the chain go on from the record `at` to the record `next`. Between this and the record's entry it is broken, so
-// the two stand alone.
+// Has the chain go on from the record `at` to the record `next`. It takes the two fields, and is no method: until the
+// record is entered the chain is broken.
 pub(super) fn relink(first: &mut u32, records: &mut Vec<Record>, at: u32, next: u32)
     requires { at ≤ vec_len records.old }
     ensures linked { rows first.new records.new.items ≡ slice_set (rows first.old records.old.items) at (relinked (row (rows first.old records.old.items) at) next) }

@@ -22,7 +22,7 @@ impl RecordTable {
 
     // Holds these records, of which none has a residue, with this first of the chain and this index. Where they have a
     // fault, the table is empty then, with index 2.
-    // No struct of the three: a chain keeps that it rises, which these are judged for.
+    // The three one by one, and no chain: that keeps that it rises, for which these are judged first.
     #[tactic(auto, using(crate::proofs::Judged::restored))]
     pub fn restore(&mut self, first: u32, index: u32, records: &[Record]) -> Result<(), Fault>
         ensures answer { result_err result ≡ first_cause (restore_tests first index records.now) }
