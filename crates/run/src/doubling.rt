@@ -8,7 +8,8 @@ use crate::walk::RowWalk;
 use arithmetic::Arithmetic;
 
 impl<W: Arithmetic> Share<'_, '_, W> {
-    // Takes the terms of a doubling run, row by row.
+    // Takes the terms of a doubling run, row by row. The place is passed beside the run, here and where terms are counted,
+    // as whoever told the kinds apart has it.
     pub(crate) fn take_doubling(&self, from: DoublingPlace) -> (u32, Progress)
         requires place { self.now.run.now.progress ≡ Progress.Doubling from }
         ensures reached { Reached self.now.run.now self.now.terms result }

@@ -25,7 +25,8 @@ impl RecordTable {
         })
     }
 
-    // Empties the table for an index.
+    // Empties the table for an index. What refuses an index is promised thrice, here, by the test and by a listing, as each
+    // is a public call.
     pub fn begin(&mut self, index: u32) -> Result<(), Refusal>
         ensures answer { result_err result ≡ first_cause (index_causes index) }
         ensures after { contents self.new ≡ (if is_ok result then empty index else contents self.old) }
