@@ -17,7 +17,8 @@ fn digits_residue<W: Arithmetic>(arithmetic: &W, digits: &[u8]) -> u32
     rest as u32
 }
 
-// The residue of the number with its sign.
+// The residue of the number with its sign, which are two of the four fields of a published value and stand for a number
+// without the others.
 fn signed_residue<W: Arithmetic>(arithmetic: &W, negative: bool, digits: &[u8]) -> W::Element
     ensures value { W.residue arithmetic.now result ≡ signed_residue (W.modulus arithmetic.now) negative digits.now }
 {

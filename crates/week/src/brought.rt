@@ -10,6 +10,7 @@ pub(crate) type AnySource = Either<Reciprocal, Either<Doubler, Divider>>;
 
 pub(crate) type Call = BookCall<AnyArithmetic, AnySource>;
 
+// One line each: all that a trait of the six could join is the call of `new`.
 pub(crate) fn plain(modulus: u32) -> Result<AnyArithmetic, Refusal> {
     Ok(Either::Left(Plain::new(modulus)?))
 }
