@@ -1,14 +1,14 @@
 -- Remainders of signed numbers by p: of a difference u − d, of sums, differences and products.
 -- Main statements: remainder_of, remainder_sum, remainder_difference, remainder_product.
 -- Assumes nothing.
-use Rattle.std.proofs.Common.{◌≡◌, ℕ, suc, ◌+◌, ◌-◌, ◌*◌, ◌/◌, ◌%◌, ◌^◌, ◌<◌, ◌≤◌, ℤ, pos, negsuc, ◌+ℤ◌, ◌*ℤ◌, sym, refl, ap, ◌∙◌, mod-lt, mod-eq_of_lt, mul-le-mul, div-le_self, arith, w32, w64, SFits, to_z, of_z}
+use Rattle.std.proofs.Common.{◌≡◌, ℕ, suc, ◌+◌, ◌-◌, ◌*◌, ◌/◌, ◌%◌, ◌^◌, ◌<◌, ◌≤◌, ℤ, pos, negsuc, ◌+ℤ◌, ◌*ℤ◌, neg_ℤ, sym, refl, ap, ◌∙◌, mod-lt, mod-eq_of_lt, mul-le-mul, div-le_self, arith, w32, w64, SFits, to_z, of_z}
 use native.Mathlib.Nat.{add-mul-mod_self_left, mod-add-div, add-mod}
-use borrow.Author.Differences.{up, down, sum_is_lem, product_is, ints}
+use borrow.Author.Differences.{up, down, sum_is_lem, neg_is, product_is, at_most_in, ints}
 use Rattle.std.specs.Int.{int_rem_euclid}
 use Rattle.std.proofs.lemmas.Int.{to_z-of_z, to_z_pos}
 use Rattle.theory.specs.Residues.{minus}
 use Rattle.theory.proofs.Modular.{mul-mod}
-use Rattle.arithmetic.specs.Words.{remainder}
+use Rattle.arithmetic.specs.Words.{remainder, WithinHalf}
 use Rattle.arithmetic.proofs.Differences.{minus_of_sum}
 
 -- p − 1 stands for −1
@@ -118,3 +118,10 @@ product_words a b left right =
     ap (λ (z : ℤ). to_z w64 (of_z w64 (z *ℤ to_z w64 (of_z w64 (to_z w32 (of_z w32 b)))))) (widened a left)
     ∙ ap (λ (z : ℤ). to_z w64 (of_z w64 (a *ℤ z))) (widened b right)
     ∙ to_z-of_z w64 (a *ℤ b) (product_fits a b left right)
+
+-- a word is balanced where it is at most (p − 1)/2 either way
+pub within_half : (p : ℕ) (z : ℤ) → down z ≤ up z + (p - 1) / 2 → up z ≤ down z + (p - 1) / 2 → WithinHalf p z
+within_half p z low high = (
+  at_most_in (neg_ℤ (pos ((p - 1) / 2))) z (omega (arith, neg_is (pos ((p - 1) / 2)))),
+  at_most_in z (pos ((p - 1) / 2)) (omega arith),
+)

@@ -1,9 +1,9 @@
 -- Records decoded one after another, and decoding against encoding.
--- Main statements: encode-decode, held, judged, read_sound.
+-- Main statements: records_more, stored, encode-decode, held, judged, read_sound.
 -- Assumes nothing.
-use Rattle.std.proofs.Common.{◌≡◌, ℕ, zero, suc, ◌+◌, ◌*◌, ◌/◌, ◌%◌, ◌<◌, ◌≤◌, Bool, true, not, ◌&&◌, eqb, leb, List, [], ◌∷◌, ◌++◌, length, get_or, drop, None, sym, refl, ap, ◌∙◌, subst, ⊎_elim, append_assoc, arith, length-drop}
+use Rattle.std.proofs.Common.{◌≡◌, ℕ, zero, suc, ◌+◌, ◌*◌, ◌/◌, ◌%◌, ◌<◌, ◌≤◌, Bool, true, not, ◌&&◌, eqb, leb, List, [], ◌∷◌, ◌++◌, length, get_or, drop, set, None, sym, refl, ap, ◌∙◌, subst, ⊎_elim, append_assoc, arith, length-drop}
 use Rattle.std.specs.List.{flat_map}
-use Rattle.std.proofs.lemmas.List.{append-nil, drop_all, drop-drop, get_or-drop}
+use Rattle.std.proofs.lemmas.List.{append-nil, drop_all, drop-drop, drop_more, get_or-drop, set_at}
 use Rattle.std.proofs.lemmas.Nat.{div-mul-add, mod-mul-add}
 use Rattle.std.proofs.lemmas.Bool.{and_parts, cases_eq, cond-true, cond-false, eq-eqb, ne_eqb, eqb-true, leb-true, le-ltb, not-false, not_from_true}
 use Rattle.table.specs.declared.pair.Record.{Record}
@@ -23,6 +23,27 @@ pub length_records_in : (n : ℕ) (bytes : List ℕ) → length (records_in n by
 unfolding records_in
 length_records_in zero bytes = refl
 length_records_in (suc n) bytes = ap suc (length_records_in n (drop 16 bytes))
+
+-- one record more
+pub records_more : (n : ℕ) (bytes : List ℕ) → records_in (suc n) bytes ≡ records_in n bytes ++ record_at (drop (16 * n) bytes) ∷ []
+unfolding records_in
+records_more zero bytes = refl
+records_more (suc n) bytes =
+    let e : 16 + 16 * n ≡ 16 * suc n = omega arith in
+    ap (λ (rs : List Record). record_at bytes ∷ rs)
+    (records_more n (drop 16 bytes) ∙ ap (λ (xs : List ℕ). records_in n (drop 16 bytes) ++ record_at xs ∷ []) (drop-drop (16 * n) 16 bytes ∙ ap (λ (i : ℕ). drop i bytes) e))
+
+-- the next record stored behind those that were read
+pub stored : (n : ℕ) (bytes : List ℕ) (was into : List Record) (r d : Record) → n < length was → into ≡ records_in n bytes ++ drop n was
+    → r ≡ record_at (drop (16 * n) bytes) → set into n r ≡ records_in (n + 1) bytes ++ drop (n + 1) was
+stored n bytes was into r d h before is =
+    let e : suc n ≡ n + 1 = omega arith in
+    ap (λ (xs : List Record). set xs n r) (before ∙ ap (λ (xs : List Record). records_in n bytes ++ xs) (drop_more was n d h))
+    ∙ set_at (records_in n bytes) (get_or was n d) (drop (n + 1) was) r n (length_records_in n bytes)
+    ∙ sym (append_assoc (records_in n bytes) (r ∷ []) (drop (n + 1) was))
+    ∙ ap (λ (x : Record). (records_in n bytes ++ x ∷ []) ++ drop (n + 1) was) is
+    ∙ ap (λ (xs : List Record). xs ++ drop (n + 1) was) (sym (records_more n bytes))
+    ∙ ap (λ (k : ℕ). records_in k bytes ++ drop (n + 1) was) e
 
 -- the byte b that stands at the unit u in a number
 byte : (high u b low w : ℕ) → w ≡ (high * 256 + b) * u + low → b < 256 → low < u → w / u % 256 ≡ b

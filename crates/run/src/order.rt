@@ -20,7 +20,11 @@ fn order_of_two<W: Arithmetic>(arithmetic: &W) -> u32
 {
     let whole = arithmetic.modulus() - 1;
     let mut least = whole;
-    for d in 1..=whole.isqrt() {
+    for d in 1..=whole {
+        // past the root, which the quotient shows: to find the root first took longer than all trials of a small modulus
+        if whole / d < d {
+            return least;
+        }
         if whole % d == 0 {
             if leaves_one(arithmetic, d) {
                 return d;

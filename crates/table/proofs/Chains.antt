@@ -230,6 +230,17 @@ unfolding walk
 length-walk next zero i = refl
 length-walk next (suc steps) i = ap suc (length-walk next steps (next i))
 
+pub walk_first : (next : ℕ → ℕ) (steps i : ℕ) → 0 < steps → get_or (walk next steps i) 0 0 ≡ next i
+unfolding walk
+walk_first next zero i h = absurd (omega arith)
+walk_first next (suc steps) i h = refl
+
+pub walk_more : (next : ℕ → ℕ) (steps i j : ℕ) → suc j < steps → get_or (walk next steps i) (suc j) 0 ≡ next (get_or (walk next steps i) j 0)
+unfolding walk
+walk_more next zero i j h = absurd (omega arith)
+walk_more next (suc steps) i zero h = walk_first next steps (next i) (omega arith)
+walk_more next (suc steps) i (suc j) h = walk_more next steps (next i) j (omega arith)
+
 pub walk_within : (next modulus : ℕ → ℕ) (count steps i j : ℕ) → rises next modulus count steps i ≡ true → j < steps
     → (1 ≤ get_or (walk next steps i) j 0) × (get_or (walk next steps i) j 0 ≤ count)
 unfolding walk

@@ -1,17 +1,18 @@
 -- A walk along links, step by step.
--- Main statements: met_on, met_none, met_over, met_some_pair, place_met.
+-- Main statements: met_on, met_none, met_over, met_some_pair, no_pair_past, place_met.
 -- Assumes nothing.
 use Rattle.std.proofs.Common.{◌≡◌, ℕ, zero, suc, ◌+◌, ◌<◌, ◌≤◌, Bool, true, false, cond, nat_lt, List, [], ◌∷◌, map, length, take, Some, None, Option, sym, refl, ap, ◌∙◌, ⊎_elim, arith}
 use Rattle.std.specs.List.{slice_get, last_or, prefix_len, take_while}
 use Rattle.std.specs.Option.{option_map, option_map_or}
 use Rattle.std.proofs.lemmas.Bool.{cases_lt, lt-ltb, le-ltb}
+use Rattle.std.proofs.lemmas.List.{length-map}
 use Rattle.std.proofs.lemmas.Option.{slice_get-map}
 use Rattle.table.specs.declared.pair.Pair.{Pair}
 use Rattle.table.specs.declared.pair.Record.{Record}
 use Rattle.table.specs.Chain.{chained, rises, walk, place, rows, row, head, next_in, modulus_in, pair_in, pairs_along, numbered}
 use Rattle.table.specs.Walk.{met_first, met}
-use Rattle.table.proofs.Chains.{Step, rises_step, place_on, place_here, place_end}
-use Rattle.table.proofs.Records.{numbered_at, row_at}
+use Rattle.table.proofs.Chains.{Step, rises_step, place_on, place_here, place_end, length-walk}
+use Rattle.table.proofs.Records.{numbered_at, nth_past, row_at}
 
 -- no record has the number, or no step is left
 pub met_none : (rs : List Record) (left i : ℕ) → numbered rs i ≡ None → met rs left i ≡ []
@@ -81,6 +82,14 @@ module _ (first : ℕ) (rs : List Record) where
       → slice_get (pairs_along first rs) i ≡ Some (record { modulus = x.1.modulus; generator = x.1.generator })
   unfolding pair_of
   met_some_pair i x up h = met_pair i (Some x) up h
+
+  length_along : length (pairs_along first rs) ≡ length rs
+  unfolding pairs_along
+  length_along = length-map (walk (next_in (rows first rs)) (length rs) 0) (pair_in (rows first rs)) ∙ length-walk (next_in (rows first rs)) (length rs) 0
+
+  -- there are as many pairs as records
+  pub no_pair_past : (i : ℕ) → length rs ≤ i → slice_get (pairs_along first rs) i ≡ None
+  no_pair_past i h = nth_past (pairs_along first rs) i (omega (arith, length_along))
 
 -- the number of the last of them, or else n
 abbrev pub last_number : ℕ → List (ℕ × Record) → ℕ

@@ -1,5 +1,5 @@
 -- Remainders modulo p, as code computes them: what the crates above cite.
--- Main statements: mul-mod, pow-mod; minus_under, minus_unique, mul-minus;
+-- Main statements: mul-mod, pow-mod; minus_under, minus_back, minus_unique, minus_of_le, minus_of_lt, mul-minus;
 -- signed_under, mul-signed; sum-mod; the sums of both kinds one term further (direct_sum_step, doubling_sum_step),
 -- and their points and weights (direct_point_step, direct_weight_step, doubling_point_places, doubling_point_row,
 -- doubling_weight_places, doubling_weight_row).
@@ -54,6 +54,9 @@ minus-cong p a b pos =
     whole : a % p + (p - b % p) + b % p ≡ a % p + p * 1
     whole = omega (arith, mod-lt b pos)
 
+pub minus_back : (p a b : ℕ) → 0 < p → (minus p a b + b) % p ≡ a % p
+minus_back p a b pos = cong-mod (minus-cong p a b pos)
+
 -- and no other residue does
 pub minus_unique : (p a b x : ℕ) → x < p → (x + b) % p ≡ a % p → x ≡ minus p a b
 minus_unique p a b x h e =
@@ -61,6 +64,23 @@ minus_unique p a b x h e =
   where
     pos : 0 < p
     pos = omega arith
+
+pub minus_of_le : (p a b : ℕ) → b ≤ a → a < p → minus p a b ≡ a - b
+minus_of_le p a b h u = sym (minus_unique p a b (a - b) (omega arith) (ap (λ (n : ℕ). n % p) (omega arith)))
+
+pub minus_of_lt : (p a b : ℕ) → a < b → b < p → minus p a b ≡ a + (p - b)
+minus_of_lt p a b h u =
+    sym
+    (minus_unique
+    p
+    a
+    b
+    (a + (p - b))
+    (omega arith)
+    (cong-mod (eq_cong whole (cong_trans (cong-add (cong_refl a) (cong_zero 1)) (cong_of_eq (omega arith))))))
+  where
+    whole : a + (p - b) + b ≡ a + p * 1
+    whole = omega arith
 
 -- minus speaks of residues
 pub minus_congruent : {p a b c d : ℕ} → 0 < p → Cong p a c → Cong p b d → minus p a b ≡ minus p c d
@@ -121,6 +141,10 @@ mul-signed p (suc d) c n pos = mul-minus p c 0 n pos ∙ ap (λ (z : ℕ). minus
 
 -- inverses
 
+pub inverse_under : (p a : ℕ) → 0 < p → inverse p a < p
+unfolding inverse
+inverse_under p a pos = mod-lt (a ^ (p - 2)) pos
+
 pub inverse-mod : (p a : ℕ) → inverse p (a % p) ≡ inverse p a
 unfolding inverse
 inverse-mod p a = pow-mod a (p - 2) p
@@ -173,6 +197,10 @@ pub direct_term_is
     : (p g k i : ℕ) → direct_term p g k i ≡ minus p (half_below p g) (direct_quotient p g i) * direct_weight p g k i % p
 unfolding direct_term
 direct_term_is p g k i = refl
+
+pub direct_term_under : (p g k i : ℕ) → 0 < p → direct_term p g k i < p
+unfolding direct_term
+direct_term_under p g k i pos = mod-lt (minus p (half_below p g) (direct_quotient p g i) * direct_weight p g k i) pos
 
 pub direct_sum_under : (p g k t : ℕ) → 0 < p → direct_sum p g k t < p
 unfolding direct_sum
@@ -233,6 +261,11 @@ doubling_weight_places p g k i j u =
     (ap (λ (n : ℕ). (g ^ (k - 1)) ^ i * n) (pow-add (2 ^ (k - 1)) j u) ∙ omega arith)
     ∙ sym (mul-mod ((g ^ (k - 1)) ^ i * (2 ^ (k - 1)) ^ j) ((2 ^ (k - 1)) ^ u) p)
 
+pub doubling_weight_place
+    : (p g k i j : ℕ) → doubling_weight p g k i (j + 1) ≡ doubling_weight p g k i j * (2 ^ (k - 1) % p) % p
+doubling_weight_place p g k i j =
+    doubling_weight_places p g k i j 1 ∙ ap (λ (n : ℕ). doubling_weight p g k i j * (n % p) % p) (pow_one (2 ^ (k - 1)))
+
 pub doubling_weight_row
     : (p g k i j : ℕ) → doubling_weight p g k (i + 1) j ≡ doubling_weight p g k i j * (g ^ (k - 1) % p) % p
 unfolding doubling_weight
@@ -248,6 +281,10 @@ pub doubling_term_is
     → doubling_term p g k i j ≡ signed p (2 * doubling_point p g i j / p) (doubling_weight p g k i j)
 unfolding doubling_term
 doubling_term_is p g k i j = refl
+
+pub doubling_term_under : (p g k i j : ℕ) → 0 < p → doubling_term p g k i j < p
+unfolding doubling_term
+doubling_term_under p g k i j pos = signed_under p (2 * doubling_point p g i j / p) (doubling_weight p g k i j) pos
 
 pub doubling_sum_under : (p g k t : ℕ) → 0 < p → doubling_sum p g k t < p
 unfolding doubling_sum

@@ -59,6 +59,10 @@ impl<'a> Chain<'a> {
     pub(super) fn pair_at(&self, position: usize) -> Option<Pair>
         ensures value { result ≡ slice_get (pairs_along self.now.first self.now.records.now) position }
     {
+        // without this, a position past the last would go along the whole chain
+        if position >= self.records.len() {
+            return None;
+        }
         let (_, record) = self.walk().nth(position)?;
         Some(Pair::from(record))
     }

@@ -59,5 +59,10 @@ impl<'a> Iterator for Walk<'a> {
 pub(super) fn numbered(records: &[Record], number: u32) -> Option<Record>
     ensures value { result ≡ numbered records.now number }
 {
-    records.get((number as usize).checked_sub(1)?).copied()
+    // the number is compared, and not its place: along the links, the next load then waits for one step less
+    if number as usize > records.len() {
+        return None;
+    }
+    let place = (number as usize).checked_sub(1)?;
+    Some(records[place])
 }

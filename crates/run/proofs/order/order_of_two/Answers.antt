@@ -1,5 +1,4 @@
 use Rattle.std.proofs.Common.{◌≡◌, ℕ, ◌+◌, ◌-◌, ◌*◌, ◌/◌, ◌%◌, ◌^◌, ◌<◌, ◌≤◌, ◌≢◌, sym, ap, ◌∙◌, subst, arith, div-lt_iff_lt-mul, true-eqb, false-eqb}
-use native.Mathlib.Decide.{dec_lt}
 use Rattle.theory.specs.Doubling.{order}
 use Rattle.theory.specs.Pairs.{FitModulus}
 use Rattle.run.proofs.Divisors.{Tried, tried_none, tried_more, tried_least, least_is_order, cofactor_of, cofactor_falls}
@@ -77,17 +76,23 @@ loop-d-preserved g c =
           subst (λ (n : ℕ). Tried p whole (d + 1) n) (sym w.least-is) (skipped p whole d c.loop-d.least c.loop-d.invariant w.if-whole-d-eq0.false)
     ]
 
+-- past the root: all divisors are tried
+pub returns-then-whole-d : goal.returns-then-whole-d
+returns-then-whole-d g c =
+    let a = c.args.arithmetic.now in
+    record {
+      value = ended (g.W.Arithmetic.modulus a) c.modulus-whole.result c.loop-d.d c.loop-d.least c.modulus-whole.ensures.value
+          (g.met.W.Arithmetic.fit a) c.requires.whole c.loop-d.invariant c.if-whole-d.true;
+    }
+
 -- some number is tried: p − 1 is no 0
 pub returns : goal.returns
 returns g c =
     let low = (g.met.W.Arithmetic.fit c.args.arithmetic.now).1 in
-    let root = c.isqrt-d-end.result in
-    let none : root ≡ 0 =
-    elim (dec_lt 0 root) [ yes some ↦ absurd (omega (arith, c.loop-d-test.false, c.loop-d.auto.d-end some)) | no past ↦ omega (arith, past) ] in
-    let past = rw none at c.isqrt-d-end.ensures.next_square_gt in
-    absurd (omega (arith, past, c.modulus-whole.ensures.value, low))
+    let some : 0 < c.modulus-whole.result - 1 = omega (arith, c.modulus-whole.ensures.value, low) in
+    absurd (omega (arith, c.loop-d-test.false, c.loop-d.auto.d-end some))
 
--- the last number is tried: the next one is past the root
+-- p − 1 itself is tried: the next number is past the root
 pub returns-after-whole-d-eq0 : goal.returns-after-whole-d-eq0
 returns-after-whole-d-eq0 g c =
     let a = c.args.arithmetic.now in
@@ -95,8 +100,8 @@ returns-after-whole-d-eq0 g c =
     let whole = c.modulus-whole.result - 1 in
     let d = c.loop-d.d in
     let low = (g.met.W.Arithmetic.fit a).1 in
-    let last : d ≡ c.isqrt-d-end.result = omega (arith, c.loop-d-test.true) in
-    let past : whole < (d + 1) * (d + 1) = rw last c.isqrt-d-end.ensures.next_square_gt in
+    let last : d ≡ whole = omega (arith, c.loop-d-test.true) in
+    let past : whole < (d + 1) * (d + 1) = omega (arith, last) in
     let tried : Tried p whole (d + 1) c.if-whole-d-eq0.least =
     elim c.if-whole-d-eq0.branch [
       | then-whole-d-eq0+else-leaves_one+then-leaves_one-2 w ↦

@@ -3,8 +3,12 @@ use Rattle.std.proofs.lemmas.Iterator.Consumers.{nth_from_yields_List, YieldsLis
 use Rattle.table.specs.declared.pair.Pair.{Pair}
 use Rattle.table.specs.declared.pair.Record.{Record}
 use Rattle.table.specs.Walk.{met}
-use Rattle.table.proofs.Walks.{met_no_pair, met_some_pair}
+use Rattle.table.proofs.Walks.{met_no_pair, met_some_pair, no_pair_past}
 use Rattle.table.proofs.table.chain.Chain.pair_at.Goals as goal
+
+pub returns-then-position-self : goal.returns-then-position-self
+returns-then-position-self c =
+    record { value = sym (no_pair_past c.args.self.now.first c.args.self.now.records.now c.args.position c.if-position-self.true) }
 
 pub returns-in_err-record : goal.returns-in_err-record
 returns-in_err-record c =
